@@ -1,0 +1,66 @@
+-- What sources and sinks say: what is left, what is held, and when a fault counts.
+use Rattle.std.specs.Prelude.{◌≡◌, ◌+◌, ◌-◌, ◌^◌, ◌<◌, ◌≤◌, ◌++◌, ℕ, List, [], min, length, take, drop, Some, None, Option}
+use Rattle.san_base.specs.declared.sink.Put.{Put}
+use Rattle.san_base.specs.declared.source.Read.{Read}
+use Rattle.san_base.specs.declared.source.Read.TheVariants as read
+use Rattle.san_base.specs.declared.sink.Put.TheVariants as put
+use Rattle.san_base.specs.declared.source.Turn.{Turn}
+use Rattle.san_base.specs.declared.source.Turn.TheVariants as turn
+
+-- a count of faults rose, or stands at its type's greatest number, where it stays
+abbrev pub Rose : ℕ → ℕ → Type 0
+Rose before now = min (before + 1) (2 ^ 64 - 1) ≤ now
+
+-- where what is held is told, these bytes now stand after it
+abbrev pub Appends : Option (List ℕ) → Option (List ℕ) → List ℕ → Type 0
+Appends None new bytes = new ≡ None
+Appends (Some held) new bytes = new ≡ Some (held ++ bytes)
+
+-- the same of a front part of these bytes
+abbrev pub AppendsPrefix : Option (List ℕ) → Option (List ℕ) → List ℕ → Type 0
+AppendsPrefix old new bytes = (part : List ℕ) × (rest : List ℕ) × (part ++ rest ≡ bytes) × Appends old new part
+
+-- what a put of a piece does
+abbrev pub Puts : Put → Option (List ℕ) → Option (List ℕ) → List ℕ → ℕ → ℕ → Type 0
+Puts (put.Took count) old new piece before now = (0 < count) × (count ≤ length piece) × Appends old new (take count piece)
+Puts put.Failed old new piece before now = Rose before now × (new ≡ old)
+
+-- where what is left is told, these bytes are gone from its front
+abbrev pub Takes : Option (List ℕ) → Option (List ℕ) → List ℕ → Type 0
+Takes None new bytes = new ≡ None
+Takes (Some left) new bytes = (rest : List ℕ) × (left ≡ bytes ++ rest) × (new ≡ Some rest)
+
+-- with the bytes taken before from anything, these are taken from it
+abbrev pub TakesTogether : Option (List ℕ) → Option (List ℕ) → List ℕ → List ℕ → Type 0
+TakesTogether old new before now = (first : Option (List ℕ)) → Takes first old before → Takes first new now
+
+-- where what is left is told, it had so many bytes, which are gone from its front
+abbrev pub TakesFirst : Option (List ℕ) → Option (List ℕ) → ℕ → Type 0
+TakesFirst None new count = new ≡ None
+TakesFirst (Some left) new count = (count ≤ length left) × (new ≡ Some (drop count left))
+
+abbrev pub TakesUpTo : Option (List ℕ) → Option (List ℕ) → ℕ → Type 0
+TakesUpTo old new most = (count : ℕ) × (count ≤ most) × TakesFirst old new count
+
+-- where what is left is told, that is nothing
+abbrev pub IsUsedUp : Option (List ℕ) → Type 0
+IsUsedUp None = Unit {0}
+IsUsedUp (Some left) = left ≡ []
+
+-- where what is left is told, its first so many bytes are gone and stand in front in the buffer
+abbrev pub Gives : Option (List ℕ) → Option (List ℕ) → List ℕ → ℕ → Type 0
+Gives None new buf count = new ≡ None
+Gives (Some left) new buf count = (count ≤ length left) × (take count buf ≡ take count left) × (new ≡ Some (drop count left))
+
+-- what one more read does, by its answer, to what is left and to the bytes taken before
+abbrev pub TakesMore : Turn → Option (List ℕ) → Option (List ℕ) → List ℕ → List ℕ → ℕ → Type 0
+TakesMore turn.More old new before now most = (0 < length now - length before) × (length now ≤ length before + most) × TakesTogether old new before now
+TakesMore turn.End old new before now most = IsUsedUp old × (new ≡ old) × (now ≡ before)
+TakesMore turn.Failed old new before now most = (new ≡ old) × (now ≡ before)
+TakesMore turn.NoMemory old new before now most = TakesUpTo old new most
+
+-- what a read does to what is left and to the buffer
+abbrev pub Reads : Read → Option (List ℕ) → Option (List ℕ) → List ℕ → ℕ → ℕ → Type 0
+Reads (read.Took count) old new buf before now = (0 < count) × (count ≤ length buf) × Gives old new buf count
+Reads read.End old new buf before now = IsUsedUp old × (new ≡ old)
+Reads read.Failed old new buf before now = Rose before now × (new ≡ old)

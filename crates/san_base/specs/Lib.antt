@@ -1,0 +1,5 @@
+pub mod Flow
+pub mod Limits
+pub mod Memory
+pub mod Plain
+pub mod Status
