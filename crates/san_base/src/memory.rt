@@ -25,7 +25,13 @@ impl Model for MemSource {
 
     ghost Value = { Feed };
 
-    ghost view = { λ s. record { left = drop s.at s.bytes.items; greatest = s.greatest; fails = s.fails.items; calls = s.calls; faults = s.faults } };
+    ghost view = { λ s. record {
+      left = drop s.at s.bytes.items;
+      greatest = s.greatest;
+      fails = s.fails.items;
+      calls = s.calls;
+      faults = s.faults;
+    } };
 
     ghost invariant = { λ s. (s.at ≤ vec_len s.bytes) × (0 < s.greatest) };
 }
@@ -34,7 +40,8 @@ impl MemSource {
     /// Gives these bytes, at most `greatest` a call.
     pub fn new(bytes: Vec<u8>, greatest: usize, fails: Vec<u64>) -> MemSource
         requires { 0 < greatest }
-        ensures { result ≡ record { left = bytes.items; greatest = greatest; fails = fails.items; calls = 0; faults = 0 } }
+        ensures { result ≡ record
+            { left = bytes.items; greatest = greatest; fails = fails.items; calls = 0; faults = 0 } }
     {
         MemSource {
             bytes,
@@ -62,7 +69,8 @@ impl Source for MemSource {
     fn read(&mut self, buf: &mut [u8]) -> Read
         requires { 0 < length buf.old }
         ensures later { self.old.faults ≤ self.new.faults }
-        ensures read { Reads result (Some self.old.left) (Some self.new.left) buf.new self.old.faults self.new.faults }
+        ensures read { Reads result (Some self.old.left) (Some self.new.left) buf.new self.old.faults
+            self.new.faults }
         ensures fails { (result ≡ Read.Failed) ↔ Contains self.old.fails self.old.calls }
         ensures calls { self.new.calls ≡ counted self.old.calls }
         ensures same { (self.new.greatest ≡ self.old.greatest) × (self.new.fails ≡ self.old.fails) }
@@ -108,7 +116,14 @@ impl Model for MemSink {
 
     ghost Value = { Store };
 
-    ghost view = { λ s. record { held = s.bytes.items; room = s.room; greatest = s.greatest; fails = s.fails.items; calls = s.calls; faults = s.faults } };
+    ghost view = { λ s. record {
+      held = s.bytes.items;
+      room = s.room;
+      greatest = s.greatest;
+      fails = s.fails.items;
+      calls = s.calls;
+      faults = s.faults;
+    } };
 
     ghost invariant = { λ s. (vec_len s.bytes + s.room ≤ vec_capacity s.bytes) × (0 < s.greatest) };
 }
@@ -122,7 +137,8 @@ impl MemSink {
         fails: Vec<u64>,
     ) -> Result<MemSink, NoMemory>
         requires { 0 < greatest }
-        ensures { IfOk result (λ s. s ≡ record { held = held.items; room = room; greatest = greatest; fails = fails.items; calls = 0; faults = 0 }) }
+        ensures { IfOk result
+            (λ s. s ≡ record { held = held.items; room = room; greatest = greatest; fails = fails.items; calls = 0; faults = 0 }) }
     {
         let mut bytes = held;
         bytes.reserve(room)?;
@@ -158,7 +174,8 @@ impl Sink for MemSink {
     fn put(&mut self, piece: &[u8]) -> Put
         requires { 0 < length piece.now }
         ensures later { self.old.faults ≤ self.new.faults }
-        ensures put { Puts result (Some self.old.held) (Some self.new.held) piece.now self.old.faults self.new.faults }
+        ensures put { Puts result (Some self.old.held) (Some self.new.held) piece.now self.old.faults
+            self.new.faults }
         ensures fails { (result ≡ Put.Failed) ↔ ((self.old.room ≡ 0) ⊎ Contains self.old.fails self.old.calls) }
         ensures calls { self.new.calls ≡ counted self.old.calls }
         ensures room { self.new.room + length self.new.held ≡ self.old.room + length self.old.held }

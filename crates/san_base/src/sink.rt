@@ -18,13 +18,15 @@ pub trait Sink {
     fn put(&mut self, piece: &[u8]) -> Put
         requires { 0 < length piece.now }
         ensures later { faults self.old ≤ faults self.new }
-        ensures put { Puts result (held self.old) (held self.new) piece.now (faults self.old) (faults self.new) };
+        ensures put { Puts result (held self.old) (held self.new) piece.now (faults self.old)
+            (faults self.new) };
 }
 
 /// Puts all the bytes; false after a put that failed.
 #[tactic(auto, using(crate::proofs::FlowLemmas::appends_nothing, crate::proofs::FlowLemmas::appends_more, crate::proofs::FlowLemmas::appends_whole))]
 pub fn put_all<K: Sink>(sink: &mut K, bytes: &[u8]) -> bool
-    ensures bytes { MatchBool result (Appends (K.held sink.old) (K.held sink.new) bytes.now) (AppendsPrefix (K.held sink.old) (K.held sink.new) bytes.now) }
+    ensures bytes { MatchBool result (Appends (K.held sink.old) (K.held sink.new) bytes.now)
+        (AppendsPrefix (K.held sink.old) (K.held sink.new) bytes.now) }
     ensures cause { MatchBool result (Unit {0}) (Rose (K.faults sink.old) (K.faults sink.new)) }
     ensures later { K.faults sink.old ≤ K.faults sink.new }
 {

@@ -46,7 +46,8 @@ enum Turn {
 #[tactic(auto, using(crate::proofs::FlowLemmas::takes_more, crate::proofs::FlowLemmas::gives_first))]
 fn take_more<S: Source>(source: &mut S, part: &mut [u8], taken: &mut Vec<u8>) -> Turn
     requires { 0 < length part.old }
-    ensures answer { TakesMore result (S.left source.old) (S.left source.new) taken.old.items taken.new.items (length part.old) }
+    ensures answer { TakesMore result (S.left source.old) (S.left source.new) taken.old.items taken.new.items
+        (length part.old) }
     ensures cause { result ≡ Turn.Failed → Rose (S.faults source.old) (S.faults source.new) }
     ensures later { S.faults source.old ≤ S.faults source.new }
 {
@@ -71,7 +72,8 @@ pub fn take_all<S: Source>(alloc: Global, source: &mut S, most: u32) -> Result<V
     ensures over { IsErrOf result Taking.Over → TakesFirst (S.left source.old) (S.left source.new) (most + 1) }
     ensures failed { IsErrOf result Taking.Failed → Rose (S.faults source.old) (S.faults source.new) }
     ensures cut { IsErrOf result Taking.Failed → TakesUpTo (S.left source.old) (S.left source.new) most }
-    ensures no_memory { IsErrOf result Taking.NoMemory → TakesUpTo (S.left source.old) (S.left source.new) (most + 1) }
+    ensures no_memory { IsErrOf result Taking.NoMemory
+        → TakesUpTo (S.left source.old) (S.left source.new) (most + 1) }
 
     ensures later { S.faults source.old ≤ S.faults source.new }
 {

@@ -98,7 +98,8 @@ impl SureSink {
 
     pub fn append(&mut self, piece: &[u8])
         requires { length piece.now ≤ self.old.room }
-        ensures { self.new ≡ record self.old { held = self.old.held ++ piece.now; room = self.old.room - length piece.now } }
+        ensures { self.new ≡ record self.old
+            { held = self.old.held ++ piece.now; room = self.old.room - length piece.now } }
     {
         let SureSink { bytes, room, .. } = self;
         let Ok(()) = bytes.extend_from_slice(piece) else {
@@ -124,7 +125,8 @@ impl Sink for SureSink {
     fn put(&mut self, piece: &[u8]) -> Put
         requires { 0 < length piece.now }
         ensures later { self.old.faults ≤ self.new.faults }
-        ensures put { Puts result (Some self.old.held) (Some self.new.held) piece.now self.old.faults self.new.faults }
+        ensures put { Puts result (Some self.old.held) (Some self.new.held) piece.now self.old.faults
+            self.new.faults }
         ensures all { length piece.now ≤ self.old.room → result ≡ Put.Took (length piece.now) }
         ensures full { self.old.room < length piece.now → result ≡ Put.Failed }
     {

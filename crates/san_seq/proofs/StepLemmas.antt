@@ -1,5 +1,5 @@
 -- How a trajectory goes on by one step.
-use Rattle.std.proofs.Common.{ℕ, zero, suc, ◌+◌, ◌-◌, ◌<◌, ◌≤◌, ◌≡◌, ◌∙◌, ap, sym, refl, List, [], ◌∷◌, ◌++◌, Option, Some, None, Bool, true, false, nat_lt, nat_le, arith, append_assoc, append-nil, subst, cond}
+use Rattle.std.proofs.Common.{ℕ, suc, ◌+◌, ◌-◌, ◌<◌, ◌≡◌, ◌∙◌, ap, sym, refl, List, [], ◌∷◌, ◌++◌, Option, Some, None, Bool, true, false, nat_lt, arith, append_assoc, append-nil, cond}
 use Rattle.std.proofs.lemmas.Bool.Decides.{nat_tests}
 use Rattle.san_base.specs.declared.ending.Event.{Event}
 use Rattle.san_base.specs.declared.ending.Ending.{Ending}
@@ -8,7 +8,7 @@ use Rattle.san_base.specs.declared.ending.Stop.{Stop}
 use Rattle.san_seq.specs.declared.run.Stepped.{Stepped}
 use Rattle.san_seq.specs.declared.run.Stepped.TheVariants as stepped
 use Rattle.san_seq.specs.declared.run.Trajectory.{Trajectory}
-use Rattle.san_seq.specs.Run.{Net, Run, completed, completed_at, followed, happened_at, is_enabled, over_at, renewed, run, step, step_where, stepped_of, trajectory, complete}
+use Rattle.san_seq.specs.Run.{Net, Run, completed, completed_at, followed, happened_at, is_enabled, over_at, run, step, step_where, stepped_of, trajectory, complete}
 
 -- arcs that take a token and put it back leave an enabled activity's place as it was
 pub completed_is : (value : ℕ) → is_enabled value ≡ true → completed value ≡ value

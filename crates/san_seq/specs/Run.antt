@@ -1,6 +1,5 @@
 -- A run of a model of the first form: its state, its step and its trajectory.
-use Rattle.std.specs.Prelude.{ℕ, zero, suc, ◌+◌, ◌-◌, nat_lt, nat_le, Bool, List, [], ◌∷◌, Option, Some, None, if◌then◌else◌}
-use Rattle.san_base.specs.declared.ending.Event.{Event}
+use Rattle.std.specs.Prelude.{ℕ, zero, suc, ◌+◌, ◌-◌, nat_lt, nat_le, Bool, [], ◌∷◌, Option, Some, None, if◌then◌else◌}
 use Rattle.san_base.specs.declared.ending.Ending.{Ending}
 use Rattle.san_base.specs.declared.ending.Ending.TheVariants as ending
 use Rattle.san_base.specs.declared.ending.Stop.TheVariants as stop
@@ -53,16 +52,24 @@ stepped_of (ending.Stop stop) = stepped.Stopped stop
 
 -- an ending leaves the renewed timer
 abbrev pub over_at : Run → Option ℕ → Ending → Stepped × Run
-over_at r timer e = (stepped_of e, record {
-  net = r.net;
-  state = record { time = r.state.time; value = r.state.value; timer = timer; count = r.state.count };
-  over = Some e })
+over_at r timer e = (
+  stepped_of e,
+  record {
+    net = r.net;
+    state = record { time = r.state.time; value = r.state.value; timer = timer; count = r.state.count };
+    over = Some e;
+  },
+)
 
 abbrev pub happened_at : Run → ℕ → Stepped × Run
-happened_at r due = (stepped.Event (record { time = record { 0 = due }; act = record { 0 = 0 }; case = 0 }), record {
-  net = r.net;
-  state = record { time = due; value = completed r.state.value; timer = None; count = r.state.count + 1 };
-  over = None })
+happened_at r due = (
+  stepped.Event (record { time = record { 0 = due }; act = record { 0 = 0 }; case = 0 }),
+  record {
+    net = r.net;
+    state = record { time = due; value = completed r.state.value; timer = None; count = r.state.count + 1 };
+    over = None;
+  },
+)
 
 -- a completion, unless the event limit is reached
 abbrev pub completed_at : Run → ℕ → Stepped × Run
@@ -105,4 +112,5 @@ abbrev pub opening : Plain → Limits → Run
 opening plain limits = record {
   net = record { initial = plain.initial; delay = plain.delay; horizon = limits.horizon.0; limit = limits.events };
   state = record { time = 0; value = plain.initial; timer = None; count = 0 };
-  over = None }
+  over = None;
+}

@@ -45,7 +45,21 @@ impl<'a> Model for Seq<'a> {
 
     ghost Value = { Run };
 
-    ghost view = { λ s. record { net = record { initial = s.plain.now.initial; delay = s.plain.now.delay; horizon = s.limits.horizon.0; limit = s.limits.events }; state = record { time = s.time; value = slice_index s.marking 0; timer = s.timer; count = s.count }; over = s.over } };
+    ghost view = { λ s. record {
+      net = record {
+        initial = s.plain.now.initial;
+        delay = s.plain.now.delay;
+        horizon = s.limits.horizon.0;
+        limit = s.limits.events;
+      };
+      state = record {
+        time = s.time;
+        value = slice_index s.marking 0;
+        timer = s.timer;
+        count = s.count;
+      };
+      over = s.over;
+    } };
 
     ghost invariant = { λ s. IsPlain s.plain.now × IsInRange s.limits × (s.time ≤ s.limits.horizon.0) };
 }
@@ -117,7 +131,8 @@ impl<'a> Seq<'a> {
     }
 
     fn renew(&mut self)
-        ensures { self.new ≡ record self.old { state = record self.old.state { timer = renewed self.old.net self.old.state } } }
+        ensures { self.new ≡ record self.old
+            { state = record self.old.state { timer = renewed self.old.net self.old.state } } }
     {
         let due = self.time + self.plain.delay;
         self.timer = if is_enabled(self.marking[0]) {

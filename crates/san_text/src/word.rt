@@ -117,7 +117,8 @@ pub fn mark_at(text: &[u8], at: usize, mark: u8) -> Option<usize>
 pub fn name_at(text: &[u8], at: usize) -> Option<(usize, usize)>
     requires { at ≤ length text.now }
     ensures value { result ≡ name_at text.now at }
-    ensures within { IfSome result (λ name. (name.0 < name.1) × (name.1 ≤ name.0 + 64) × (name.1 ≤ length text.now)) }
+    ensures within { IfSome result
+        (λ name. (name.0 < name.1) × (name.1 ≤ name.0 + 64) × (name.1 ≤ length text.now)) }
 {
     let from = start_of(text, at);
     let to = run_end(text, from, Class::Word);

@@ -1,4 +1,4 @@
-use Rattle.std.proofs.Common.{◌≡◌, ◌∙◌, ◌<◌, ◌-◌, sym, ap, subst, arith}
+use Rattle.std.proofs.Common.{◌∙◌, ◌<◌, ◌-◌, sym, ap, subst, arith}
 use Rattle.san_seq.specs.Run.{Run, step}
 use Rattle.san_seq.proofs.StepLemmas.{counted, after_more, after_over, after_end, trajectory_stopped}
 use Rattle.san_seq.proofs.run.Seq.run_all.Goals as goal
