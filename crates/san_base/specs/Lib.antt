@@ -1,3 +1,4 @@
+pub mod Draws
 pub mod Flow
 pub mod Limits
 pub mod Memory

@@ -1,5 +1,8 @@
-//! Worked rows as tests, across the crates. Their values were worked out by hand.
+//! Worked rows as tests, across the crates. Their values were worked out by hand, or by programs
+//! that share nothing with this one.
 #![tactic(auto)]
 
+#[cfg(test)]
+mod draws;
 #[cfg(test)]
 mod first_form;

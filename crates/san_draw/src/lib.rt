@@ -1,0 +1,10 @@
+//! Numbered draws: a number below 2^64 by seed, stream and number, in any order.
+#![tactic(auto)]
+
+mod choice;
+mod draws;
+mod streams;
+
+pub use choice::{choose, every_number_is_picked, pick};
+pub use draws::Draws;
+pub use streams::Streams;

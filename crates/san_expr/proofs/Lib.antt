@@ -1,0 +1,7 @@
+pub mod ConcernLemmas
+pub mod SameLemmas
+pub mod ViewLemmas
+pub mod ComposeLemmas
+pub mod EvalLemmas
+pub mod StatementLemmas
+pub mod WholeLemmas

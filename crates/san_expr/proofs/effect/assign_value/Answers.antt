@@ -1,0 +1,16 @@
+use Rattle.std.proofs.Common.{rules, subst, SFits, w64, ℤ, Result}
+use Rattle.std.proofs.lemmas.Int.{to_z-of_z}
+use Rattle.san_base.specs.declared.ending.Trap.{Trap}
+use Rattle.san_expr.specs.Effect.{assign_at}
+use Rattle.san_expr.specs.Meets.{Meets}
+use Rattle.san_expr.specs.Value.{value_of}
+use Rattle.san_expr.proofs.ComposeLemmas.{meets_then}
+use Rattle.san_expr.proofs.effect.assign_value.Goals as goal
+
+pub returns-in-Ok : goal.returns-in-Ok
+returns-in-Ok g c =
+    let sight = g.V.Marked.sight in
+    let fits : SFits w64 c.in-Ok.x = search rules in
+    let x = to_z-of_z w64 c.in-Ok.x fits in
+    let read = subst (λ (a : Result ℤ Trap). Meets (sight c.args.view.now) (sight c.eval.new.view) (value_of c.args.e.now) a) c.in-Ok.is c.eval.ensures.meets in
+    meets_then (sight c.args.view.now) (sight c.eval.new.view) (sight c.assign.new.view) (value_of c.args.e.now) (assign_at c.args.place) c.in-Ok.x c.assign.result read (rw x at c.assign.ensures)

@@ -1,0 +1,9 @@
+pub mod View
+pub mod Meaning
+pub mod Value
+pub mod Effect
+pub mod Meets
+pub mod Below
+pub mod Delay
+pub mod Mentions
+pub mod Concerns

@@ -1,0 +1,104 @@
+ghost use Rattle.std.specs.Prelude.{◌≡◌, ◌<◌, ℕ, IsTrue};
+ghost use Rattle.san_expr.specs.Below.{array_below, places_below, stmt_below, stmts_below};
+ghost use Rattle.san_expr.specs.Effect.{count_of, assign_at, effect_of, effects_of};
+ghost use Rattle.san_expr.specs.Meaning.{settled, then_do};
+ghost use Rattle.san_expr.specs.Meets.{Meets};
+ghost use Rattle.san_expr.specs.Value.{cell_of, value_of};
+
+use crate::expr::Expr;
+use crate::stmt::Stmt;
+use crate::value::{cell_of, eval, holds};
+use crate::view::Cells;
+use san_base::Trap;
+
+/// The number of tokens that a value is.
+fn count_of(x: i64) -> Result<u32, Trap>
+    ensures { result ≡ count_of x }
+{
+    if 0 <= x && x < 1 << 31 {
+        Ok(x as u32)
+    } else {
+        Err(Trap::Marking)
+    }
+}
+
+fn assign<V: Cells>(place: u32, x: i64, view: &mut V) -> Result<(), Trap>
+    requires { place < (V.sight view.old).places }
+    ensures { Meets (V.sight view.old) (V.sight view.new) (assign_at place x) result }
+{
+    match count_of(x) {
+        Ok(count) => {
+            view.set(place, count);
+            Ok(())
+        }
+        Err(trap) => Err(trap),
+    }
+}
+
+fn assign_value<V: Cells>(place: u32, e: &Expr, view: &mut V) -> Result<(), Trap>
+    requires place { place < (V.sight view.old).places }
+    requires value { IsTrue (places_below e.now (V.sight view.old).places) }
+    ensures { Meets (V.sight view.old) (V.sight view.new) (then_do (value_of e.now) (assign_at place)) result }
+{
+    match eval(e, view) {
+        Ok(x) => assign(place, x, view),
+        Err(trap) => Err(trap),
+    }
+}
+
+/// Assigns an element of an array, by its index.
+fn assign_cell<V: Cells>(
+    first: u32,
+    length: u32,
+    index: i64,
+    e: &Expr,
+    view: &mut V,
+) -> Result<(), Trap>
+    requires array { IsTrue (array_below first length (V.sight view.old).places) }
+    requires value { IsTrue (places_below e.now (V.sight view.old).places) }
+    ensures { Meets (V.sight view.old) (V.sight view.new) (then_do (settled (cell_of first length index)) (λ p. then_do (value_of e.now) (assign_at p))) result }
+{
+    match cell_of(first, length, index) {
+        Ok(place) => assign_value(place, e, view),
+        Err(trap) => Err(trap),
+    }
+}
+
+/// The effect of statements, in order; after a trap the view holds the assignments made before it.
+#[cycle(stmts)]
+pub fn run_stmts<V: Cells>(body: &[Stmt], view: &mut V) -> Result<(), Trap>
+    requires { IsTrue (stmts_below body.now (V.sight view.old).places) }
+    ensures { Meets (V.sight view.old) (V.sight view.new) (effects_of body.now) result }
+{
+    for stmt in body {
+        match run_stmt(stmt, view) {
+            Ok(()) => {}
+            Err(trap) => return Err(trap),
+        }
+    }
+    Ok(())
+}
+
+#[cycle(stmts)]
+fn run_stmt<V: Cells>(stmt: &Stmt, view: &mut V) -> Result<(), Trap>
+    requires { IsTrue (stmt_below stmt.now (V.sight view.old).places) }
+    ensures { Meets (V.sight view.old) (V.sight view.new) (effect_of stmt.now) result }
+{
+    match stmt {
+        Stmt::Set(place, e) => assign_value(*place, e, view),
+        Stmt::SetCell(first, length, index, e) => match eval(index, view) {
+            Ok(x) => assign_cell(*first, *length, x, e, view),
+            Err(trap) => Err(trap),
+        },
+        Stmt::If(e, then_body, else_body) => match eval(e, view) {
+            Ok(x) => {
+                if holds(x) {
+                    run_stmts(then_body.as_slice(), view)
+                } else {
+                    run_stmts(else_body.as_slice(), view)
+                }
+            }
+            Err(trap) => Err(trap),
+        },
+    }
+}

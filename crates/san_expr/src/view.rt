@@ -1,0 +1,21 @@
+ghost use Rattle.std.specs.Prelude.{◌≡◌, ◌<◌, ◌≤◌};
+ghost use Rattle.san_expr.specs.View.{Sight, Reads, assigned};
+
+/// A view of a marking: a number for each cell. Reading may note what was read.
+pub trait Marked {
+    ghost sight: { Self → Sight };
+
+    /// The view's own value of a cell, else the first one that was read of it.
+    fn read(&mut self, place: u32) -> u32
+        requires { place < (sight self.old).places }
+        ensures { Reads (sight self.old) (sight self.new) place result };
+}
+
+/// A view whose cells can be assigned.
+pub trait Cells: Marked {
+    /// The cell's own value from now on.
+    fn set(&mut self, place: u32, value: u32)
+        requires place { place < (Self.sight self.old).places }
+        requires value { value ≤ 2147483647 }
+        ensures { Self.sight self.new ≡ assigned (Self.sight self.old) place value };
+}
