@@ -216,9 +216,9 @@ module _ (cells : CellSet) where
 -- what concerns some cells concerns any further ones
 pub concerns_more : {T : Type 0} (some all : CellSet) (a : Meaning T) → IsPartOf some all → Concerns some a → Concerns all a
 concerns_more some all a part c = record {
-    looks = λ m p h. part p (c.looks m p h);
-    sets = λ m p h. part p (c.sets m p h);
-    alike = λ m n e.
+  looks = λ m p h. part p (c.looks m p h);
+  sets = λ m p h. part p (c.sets m p h);
+  alike = λ m n e.
       let within : AreEqualOn some m n = record { sized = e.sized; same = λ p h. e.same p (part p h) } in
       let like = c.alike m n within in
       record {
@@ -230,13 +230,13 @@ concerns_more some all a part c = record {
           same = λ p h. by_set m n e like p h ((a m).sets p) refl;
         };
       };
-    unset = c.unset;
-    sized = c.sized;
-    marking = c.marking;
-  }
+  unset = c.unset;
+  sized = c.sized;
+  marking = c.marking;
+}
   where
     by_set : (m n : List ℕ) → AreEqualOn all m n → AreAlike some (a m) (a n) → (p : ℕ) → IsTrue (all p) → (b : Bool) → (a m).sets p ≡ b
-      → slice_index (a m).left p ≡ slice_index (a n).left p
+        → slice_index (a m).left p ≡ slice_index (a n).left p
     by_set m n e like p h true is = like.left.same p (c.sets m p is)
     by_set m n e like p h false is = c.unset m p is ∙ e.same p h ∙ sym (c.unset n p (sym (like.sets p) ∙ is))
 

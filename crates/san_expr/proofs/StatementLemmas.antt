@@ -1,5 +1,5 @@
 -- Statements, one after another.
-use Rattle.std.proofs.Common.{ℕ, ℤ, zero, suc, ◌+◌, ◌<◌, ◌≤◌, ◌≡◌, ◌∙◌, ap, sym, refl, subst, arith, Bool, true, false, not, cond, ◌&&◌, IsTrue, Result, Ok, Err, List, [], ◌∷◌, length, get_or, drop, drop-cons, add-one}
+use Rattle.std.proofs.Common.{ℕ, ℤ, suc, ◌+◌, ◌<◌, ◌≡◌, ◌∙◌, ap, sym, refl, subst, Bool, true, false, not, cond, ◌&&◌, IsTrue, Result, Ok, Err, List, [], ◌∷◌, length, get_or, drop, drop-cons, add-one}
 use denote.Hole.Carrier
 use Rattle.san_base.specs.declared.ending.Trap.{Trap}
 use Rattle.san_expr.specs.declared.expr.Expr.{Expr}

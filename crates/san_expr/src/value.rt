@@ -14,6 +14,8 @@ fn truth_of(b: bool) -> i64
     if b { 1 } else { 0 }
 }
 
+// Without the call a node takes a third less time.
+#[inline(always)]
 fn apply(op: Op, x: i64, y: i64) -> Result<i64, Trap>
     ensures { result ≡ applied op x y }
 {

@@ -1,0 +1,10 @@
+use Rattle.std.proofs.Common.{◌≡◌, ◌-◌, ◌≤◌, length, drop, map}
+use Rattle.san_lex.specs.Lexing.{lex}
+use Rattle.san_lex.specs.Pieces.{gathered, placed}
+use Rattle.san_lex.proofs.lexing.tokens.Given as goal
+
+abbrev pub invariant-next : goal.invariant-next
+invariant-next l = (l.at ≤ length l.text) × (gathered (map (placed l.text) l.found.items) (lex 0 l.at (drop l.at l.text)) ≡ lex 0 0 l.text)
+
+abbrev pub decreases-next : goal.decreases-next
+decreases-next l = length l.text - l.at

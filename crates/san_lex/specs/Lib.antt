@@ -1,0 +1,5 @@
+pub mod Bytes
+pub mod Keywords
+pub mod Lexing
+pub mod Pieces
+pub mod Words
