@@ -1,0 +1,4 @@
+pub mod LongestLemmas
+pub mod BoundsLemmas
+pub mod SeriesLemmas
+pub mod TableLemmas

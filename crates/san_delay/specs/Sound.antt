@@ -1,0 +1,26 @@
+-- The constants of a distribution that a legal network has.
+use Rattle.std.specs.Prelude.{ℕ, ◌≤◌, List, length, map, sum, All}
+use Rattle.san_expr.specs.declared.dist.Dist.{Dist}
+use Rattle.san_expr.specs.declared.dist.Dist.TheVariants as dist
+
+-- a number that a delay can be
+abbrev pub IsDelay : ℕ → Type 0
+IsDelay n = (1 ≤ n) × (n ≤ 4294967296)
+
+-- a chance of p in q
+pub record IsChance (p q : ℕ) : Type 0 where
+  pub some : 1 ≤ p
+  pub most : p ≤ q
+  pub parts : q ≤ 1000
+
+-- delays and their weights, which are not all 0
+pub record IsTable (entries : List (ℕ × ℕ)) : Type 0 where
+  pub size : (1 ≤ length entries) × (length entries ≤ 64)
+  pub delays : All (λ e. IsDelay e.0) entries
+  pub weights : (1 ≤ sum (map (λ e. e.1) entries)) × (sum (map (λ e. e.1) entries) ≤ 4294967296)
+
+abbrev pub IsSound : Dist → Type 0
+IsSound (dist.Det e) = Unit {0}
+IsSound (dist.Uniform low high) = Unit {0}
+IsSound (dist.Geom p q) = IsChance p q
+IsSound (dist.Table entries) = IsTable entries
