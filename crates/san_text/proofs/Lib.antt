@@ -1,6 +1,1 @@
 pub mod WordLemmas
-pub mod ManyLemmas
-pub mod LoopLemmas
-pub mod SpotLemmas
-pub mod FrontLemmas
-pub mod ExprLemmas

@@ -1,11 +1,2 @@
 pub mod First
 pub mod Word
-pub mod Words
-pub mod Reading
-pub mod Expressions
-pub mod Answers
-pub mod Statements
-pub mod Activities
-pub mod Models
-pub mod Texts
-pub mod Spelling
