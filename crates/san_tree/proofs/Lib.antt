@@ -1,0 +1,9 @@
+pub mod ClimbLemmas
+pub mod LeafLemmas
+pub mod ApartLemmas
+pub mod WalkLemmas
+pub mod ValueLemmas
+pub mod ValidLemmas
+pub mod DepthLemmas
+pub mod ShareLemmas
+pub mod ReachLemmas

@@ -1,0 +1,3 @@
+pub mod Places
+pub mod Instances
+pub mod Trees

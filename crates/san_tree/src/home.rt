@@ -1,0 +1,63 @@
+ghost use Rattle.std.specs.Prelude.{◌≡◌, ◌≤◌, ◌<◌, ℕ, List, length, IfSome};
+ghost use Rattle.san_tree.specs.Places.{child_of, shared_as, width, node_at, climb, chain, settled, Step};
+
+use crate::node::Node;
+
+/// Where the climb of a leaf's place ends: the depth of the node below which it stays, 0 for the
+/// root, and the place that it has become there. Two homes are one where depth and place are equal
+/// and the first `depth` numbers of their paths are.
+#[derive(Clone, Copy, Debug, PartialEq, Eq)]
+pub struct Home {
+    pub depth: u32,
+    pub place: u32,
+}
+
+/// The climb from the end of a path up to node `n`, which has depth 0.
+pub(crate) fn climb(nodes: &[Node], n: u32, path: &[u32], place: u32) -> Home
+    requires short { length path.now ≤ 255 }
+    requires narrow { (k : ℕ) → width (node_at nodes.now k) ≤ 1024 }
+    ensures near { result.depth ≤ length path.now }
+    ensures way { (above : List Step) → climb place (chain nodes.now n path.now above) ≡ settled result.depth result.place above }
+{
+    match path {
+        [] => Home { depth: 0, place },
+        [child, rest @ ..] => {
+            let below = climb(nodes, child_at(nodes, n, *child), rest, place);
+            if below.depth > 0 {
+                return Home {
+                    depth: below.depth + 1,
+                    place: below.place,
+                };
+            }
+            match shared_at(nodes, n, *child, below.place) {
+                Some(p) => Home {
+                    depth: 0,
+                    place: p as u32,
+                },
+                None => Home {
+                    depth: 1,
+                    place: below.place,
+                },
+            }
+        }
+    }
+}
+
+fn child_at(nodes: &[Node], n: u32, child: u32) -> u32
+    ensures { result ≡ child_of (node_at nodes.now n) child }
+{
+    match nodes.get(n as usize) {
+        Some(node) => node.child(child),
+        None => 0,
+    }
+}
+
+fn shared_at(nodes: &[Node], n: u32, child: u32, place: u32) -> Option<usize>
+    ensures value { result ≡ shared_as (node_at nodes.now n) child place }
+    ensures within { IfSome result (λ p. p < width (node_at nodes.now n)) }
+{
+    match nodes.get(n as usize) {
+        Some(node) => node.shared_as(child, place),
+        None => None,
+    }
+}

@@ -1,0 +1,74 @@
+ghost use Rattle.std.specs.Prelude.{◌≡◌, ◌↔◌, ◌≤◌, length, IfOk, IfSome, IsSome};
+ghost use Rattle.std.specs.List.{All};
+ghost use Rattle.san_tree.specs.Places.{home};
+ghost use Rattle.san_tree.specs.Instances.{capped, instances, IsWithin};
+ghost use Rattle.san_tree.specs.Trees.{IsTree};
+
+use crate::counts::{count_at, counts};
+use crate::home::{Home, climb};
+use crate::instance::{Instance, walk};
+use crate::node::Node;
+use crate::valid::is_tree;
+use san_base::NoMemory;
+use sqlite_items::Items;
+use std::alloc::Global;
+
+/// The nodes of a model, and the number of the one that is the system.
+#[derive(Debug, Drop)]
+pub struct Tree {
+    pub nodes: Items<Node>,
+    pub root: u32,
+    ghost kept: { IsTree nodes root },
+}
+
+impl Tree {
+    /// The tree of these nodes, or none where they make no tree.
+    pub fn new(nodes: Items<Node>, root: u32) -> Option<Tree>
+        ensures exactly { IsSome result ↔ IsTree nodes root }
+        ensures kept { IfSome result (λ tree. (tree.nodes ≡ nodes) × (tree.root ≡ root)) }
+    {
+        if is_tree(nodes.as_slice(), root) {
+            Some(Tree { nodes, root })
+        } else {
+            None
+        }
+    }
+
+    /// The home of a place of the leaf at the end of a path of child and copy numbers. Takes no
+    /// memory, and one step for each number of the path. Own rule.
+    pub fn home(&self, path: &[u32], place: u32) -> Home
+        requires { length path.now ≤ 255 }
+        ensures depth { result.depth ≡ (home self.now.nodes self.now.root path.now place).depth }
+        ensures place { result.place ≡ (home self.now.nodes self.now.root path.now place).place }
+    {
+        climb(self.nodes.as_slice(), self.root, path, place)
+    }
+
+    /// The number of leaves, or 4097 where there are more. Takes no memory, and one pass over the
+    /// nodes.
+    pub fn leaves(&self) -> u32
+        ensures { result ≡ capped (length (instances self.now.nodes self.now.root)) }
+    {
+        let counts = counts(self.nodes.as_slice());
+        count_at(&counts, self.root)
+    }
+
+    /// The leaves in tree order.
+    pub fn instances(&self, alloc: Global) -> Result<Vec<Instance>, NoMemory>
+        ensures order { IfOk result (λ v. v.items ≡ instances self.now.nodes self.now.root) }
+        ensures within { IfOk result (λ v. All (IsWithin 255) v.items) }
+    {
+        let counts = counts(self.nodes.as_slice());
+        let mut path = Vec::new(alloc);
+        let mut out = Vec::new(alloc);
+        walk(
+            alloc,
+            self.nodes.as_slice(),
+            &counts,
+            self.root,
+            &mut path,
+            &mut out,
+        )?;
+        Ok(out)
+    }
+}
