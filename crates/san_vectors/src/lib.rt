@@ -6,3 +6,5 @@
 mod draws;
 #[cfg(test)]
 mod first_form;
+#[cfg(test)]
+mod winners;
