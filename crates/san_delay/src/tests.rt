@@ -2,7 +2,7 @@
 
 ghost use Rattle.san_delay.specs.Sound.{IsSound};
 
-use crate::{Dist, Trap, delay, longest};
+use crate::{DelayTables, Dist, Trap, delay, longest};
 use san_base::{Boxed, Items, NoMemory, Op};
 use san_expr::{Expr, Marking, dist_below};
 use std::alloc::Global;
@@ -23,6 +23,21 @@ fn given(alloc: Global, d: &Dist, u: u64) -> Option<(Result<u64, Trap>, Result<u
         let drawn = delay(d, u, &mut view);
         let most = longest(d, &mut view);
         Some((drawn, most))
+    } else {
+        None
+    }
+}
+
+/// What the tables give, in a marking of no places.
+fn kept(alloc: Global, tables: &DelayTables, d: &Dist, u: u64) -> Option<Result<u64, Trap>> {
+    let mut view = Marking::new(Vec::new(alloc));
+    let sound = match d {
+        Dist::Det(_) => true,
+        Dist::Geom(p, q) => 1 <= *p && *p <= *q && *q <= 1000,
+        _ => false,
+    };
+    if sound && dist_below(d, 0) {
+        Some(tables.delay(d, u, &mut view))
     } else {
         None
     }
@@ -99,6 +114,43 @@ fn geometric_delays(rt: HostRuntime) -> Result<(), Fail> {
         };
         assert_eq!(rt; got, Some((Ok(drawn), Ok(most))), "at {p} in {q}");
     }
+    Ok(())
+}
+
+/// Where the tables find room for a series and where they don't.
+#[test]
+fn kept_delays(rt: HostRuntime) -> Result<(), Fail> {
+    let dists = [
+        Dist::Geom(1, 2),
+        Dist::Geom(7, 7),
+        Dist::Geom(1, 3),
+        Dist::Geom(0, 5),
+    ];
+    let list = [&dists[0], &dists[0], &dists[1], &dists[2], &dists[3]];
+    let two_thirds = 12297829382473034410;
+    let rows = [
+        (1, 2, SECOND, 3),
+        (1, 2, 1, 64),
+        (1, 2, 0, 65),
+        (7, 7, u64::MAX, 1),
+        (1, 3, two_thirds - 1, 2),
+        (999, 1000, 0, 7),
+    ];
+    for room in [0, 81, 1000] {
+        let tables = DelayTables::within(rt.alloc(), &list, room)?;
+        for (p, q, u, expected) in rows {
+            assert_eq!(rt;
+                kept(rt.alloc(), &tables, &Dist::Geom(p, q), u),
+                Some(Ok(expected)),
+                "{p} in {q}, room {room}"
+            );
+        }
+    }
+    let tables = DelayTables::open(rt.alloc(), &list)?;
+    assert_eq!(rt;
+        kept(rt.alloc(), &tables, &Dist::Det(Expr::Number(4)), 0),
+        Some(Ok(4))
+    );
     Ok(())
 }
 

@@ -11,8 +11,8 @@ use crate::value::{cell_of, eval, holds};
 use crate::view::Cells;
 use san_base::Trap;
 
-/// The number of tokens that a value is.
-fn count_of(x: i64) -> Result<u32, Trap>
+/// The number of tokens that a value is, or `Trap::Marking` where a place can't have so many.
+pub fn count_of(x: i64) -> Result<u32, Trap>
     ensures { result ≡ count_of x }
 {
     if 0 <= x && x < 1 << 31 {

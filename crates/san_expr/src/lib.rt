@@ -17,7 +17,7 @@ mod view;
 
 pub use below::{dist_below, places_below, stmts_below};
 pub use dist::Dist;
-pub use effect::run_stmts;
+pub use effect::{count_of, run_stmts};
 pub use expr::Expr;
 pub use laws::{evaluations_assign_nothing, mentioned_cells_decide, whole_views_have_one_marking};
 pub use marking::Marking;
