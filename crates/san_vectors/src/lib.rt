@@ -3,8 +3,12 @@
 #![tactic(auto)]
 
 #[cfg(test)]
+mod activities;
+#[cfg(test)]
 mod draws;
 #[cfg(test)]
 mod first_form;
+#[cfg(test)]
+mod network;
 #[cfg(test)]
 mod winners;

@@ -1,0 +1,35 @@
+use Rattle.std.proofs.Common.{◌∙◌, ◌+◌, subst, drop}
+use Rattle.std.proofs.lemmas.List.{drop_all}
+use Rattle.san_net.specs.Below.{input_below}
+use Rattle.san_net.specs.Completion.{function_of}
+use Rattle.san_net.proofs.TurnLemmas.{Stands, stands_more, stands_trap, stands_end, rest_at, first_below}
+use Rattle.san_net.proofs.completion.apply_inputs.Goals as goal
+
+pub returns-in-Err : goal.returns-in-Err
+returns-in-Err g c =
+    let was = g.V.Marked.sight c.args.view.now in
+    let now = g.V.Marked.sight c.loop-input.view in
+    let at = rest_at c.args.inputs.now c.loop-input.input-index c.input-item.result c.loop-input-test.true c.input-item.is in
+    let stands = subst (Stands function_of was now c.args.inputs.now) at c.loop-input.invariant.stands in
+    stands_trap function_of was now (g.V.Marked.sight c.apply_input.new.view) c.args.inputs.now (drop (c.loop-input.input-index + 1) c.args.inputs.now) c.input-item.result
+    c.in-Err.trap c.apply_input.result stands c.in-Err.is c.apply_input.ensures
+
+pub loop-input-preserved : goal.loop-input-preserved
+loop-input-preserved g c =
+    let was = g.V.Marked.sight c.args.view.now in
+    let now = g.V.Marked.sight c.loop-input.view in
+    let at = rest_at c.args.inputs.now c.loop-input.input-index c.input-item.result c.loop-input-test.true c.input-item.is in
+    let stands = subst (Stands function_of was now c.args.inputs.now) at c.loop-input.invariant.stands in
+    let below = first_below input_below c.args.inputs.now c.loop-input.input-index _ _ c.input-item.result c.loop-input-test.true c.input-item.is c.loop-input.invariant.places c.loop-input.invariant.below in
+    record {
+      stands =
+          stands_more function_of was now (g.V.Marked.sight c.apply_input.new.view) c.args.inputs.now (drop (c.loop-input.input-index + 1) c.args.inputs.now) c.input-item.result
+          c.apply_input.result stands c.in-Ok.is c.apply_input.ensures;
+      places = c.apply_input.ensures.places ∙ c.loop-input.invariant.places;
+      below = below.1;
+    }
+
+pub returns : goal.returns
+returns g c =
+    stands_end function_of (g.V.Marked.sight c.args.view.now) (g.V.Marked.sight c.loop-input.view) c.args.inputs.now (drop c.loop-input.input-index c.args.inputs.now) c.loop-input.invariant.stands
+    (drop_all c.loop-input.input-index c.args.inputs.now c.loop-input-test.false)

@@ -1,0 +1,35 @@
+use Rattle.std.proofs.Common.{◌∙◌, ◌+◌, subst, drop}
+use Rattle.std.proofs.lemmas.List.{drop_all}
+use Rattle.san_net.specs.Below.{output_below}
+use Rattle.san_net.specs.Completion.{output_of}
+use Rattle.san_net.proofs.TurnLemmas.{Stands, stands_more, stands_trap, stands_end, rest_at, first_below}
+use Rattle.san_net.proofs.completion.apply_outputs.Goals as goal
+
+pub returns-in-Err : goal.returns-in-Err
+returns-in-Err g c =
+    let was = g.V.Marked.sight c.args.view.now in
+    let now = g.V.Marked.sight c.loop-output.view in
+    let at = rest_at c.args.outputs.now c.loop-output.output-index c.output-item.result c.loop-output-test.true c.output-item.is in
+    let stands = subst (Stands output_of was now c.args.outputs.now) at c.loop-output.invariant.stands in
+    stands_trap output_of was now (g.V.Marked.sight c.apply_output.new.view) c.args.outputs.now (drop (c.loop-output.output-index + 1) c.args.outputs.now) c.output-item.result
+    c.in-Err.trap c.apply_output.result stands c.in-Err.is c.apply_output.ensures
+
+pub loop-output-preserved : goal.loop-output-preserved
+loop-output-preserved g c =
+    let was = g.V.Marked.sight c.args.view.now in
+    let now = g.V.Marked.sight c.loop-output.view in
+    let at = rest_at c.args.outputs.now c.loop-output.output-index c.output-item.result c.loop-output-test.true c.output-item.is in
+    let stands = subst (Stands output_of was now c.args.outputs.now) at c.loop-output.invariant.stands in
+    let below = first_below output_below c.args.outputs.now c.loop-output.output-index _ _ c.output-item.result c.loop-output-test.true c.output-item.is c.loop-output.invariant.places c.loop-output.invariant.below in
+    record {
+      stands =
+          stands_more output_of was now (g.V.Marked.sight c.apply_output.new.view) c.args.outputs.now (drop (c.loop-output.output-index + 1) c.args.outputs.now) c.output-item.result
+          c.apply_output.result stands c.in-Ok.is c.apply_output.ensures;
+      places = c.apply_output.ensures.places ∙ c.loop-output.invariant.places;
+      below = below.1;
+    }
+
+pub returns : goal.returns
+returns g c =
+    stands_end output_of (g.V.Marked.sight c.args.view.now) (g.V.Marked.sight c.loop-output.view) c.args.outputs.now (drop c.loop-output.output-index c.args.outputs.now) c.loop-output.invariant.stands
+    (drop_all c.loop-output.output-index c.args.outputs.now c.loop-output-test.false)

@@ -1,0 +1,279 @@
+//! Two small leaves that share a place: what stands first in one, and the network of both.
+
+ghost use Rattle.std.specs.Prelude.{◌≡◌, ◌≤◌, [], ◌∷◌, IfOk};
+ghost use Rattle.san_net.specs.Examples.{get_part, getter, moving, one_case, put_and_get, put_part, putter, taking};
+ghost use Rattle.san_net.specs.declared.activity.Output.TheVariants as output;
+
+use san_base::{ActId, LeafId, Name, NoMemory, PlaceId, Shared, Tick};
+use san_expr::{Boxed, Dist, Expr, Items, Marking, Op, Trap};
+use san_net::{
+    ActKind, Activity, Atomic, Case, Flat, Found, Input, Output, Part, Path, Reward, Slot, Span,
+    acts_below, first_instant, instants, two_leaves_are_a_network,
+};
+use std::alloc::Global;
+use std::test::Fail;
+
+fn name(alloc: Global, letter: u8) -> Result<Name, NoMemory>
+    ensures { IfOk result (λ name. name ≡ letter ∷ []) }
+{
+    Name::new(alloc, &[letter])
+}
+
+/// One case of weight 1 that adds a token.
+fn one_case(alloc: Global, place: u32) -> Result<Items<Case>, NoMemory>
+    ensures { IfOk result (λ cases. cases ≡ one_case (output.Arc place 1 ∷ [])) }
+{
+    let mut outputs = Items::new(alloc);
+    outputs.push(Output::Arc(place, 1))?;
+    let mut cases = Items::new(alloc);
+    cases.push(Case {
+        weight: Expr::Number(1),
+        outputs,
+    })?;
+    Ok(cases)
+}
+
+/// `in p; delay table 2:1; out q;`
+fn moving(alloc: Global, p: u32, q: u32) -> Result<Activity, NoMemory>
+    ensures { IfOk result (λ a. a ≡ moving p q) }
+{
+    let mut inputs = Items::new(alloc);
+    inputs.push(Input::Arc(p, 1))?;
+    let mut entries = Items::new(alloc);
+    entries.push((2, 1))?;
+    Ok(Activity {
+        kind: ActKind::Timed {
+            delay: Dist::Table(entries),
+            pair: None,
+        },
+        inputs,
+        cases: one_case(alloc, q)?,
+    })
+}
+
+/// Instantaneous, with a priority: `in p w; out q;`
+fn taking(alloc: Global, priority: u32, p: u32, w: u32, q: u32) -> Result<Activity, NoMemory>
+    ensures { IfOk result (λ a. a ≡ taking priority p w q) }
+{
+    let mut inputs = Items::new(alloc);
+    inputs.push(Input::Arc(p, w))?;
+    Ok(Activity {
+        kind: ActKind::Instant { priority },
+        inputs,
+        cases: one_case(alloc, q)?,
+    })
+}
+
+/// `place s; place once = 1; timed a { in once; delay table 2:1; out s; }`
+fn putter(alloc: Global) -> Result<Atomic, NoMemory>
+    ensures { IfOk result (λ a. a ≡ putter) }
+{
+    let mut acts = Items::new(alloc);
+    acts.push((name(alloc, b'a')?, moving(alloc, 1, 0)?))?;
+    Ok(Atomic {
+        name: name(alloc, b'a')?,
+        initial: Items::from_slice(alloc, &[0, 1])?,
+        instants: instants(alloc, acts.as_slice())?,
+        acts,
+        rates: Items::new(alloc),
+        impulses: Items::new(alloc),
+    })
+}
+
+/// `place n; place s; instant a { in s; out n; } instant b priority 5 { in s 2; out n; }`
+fn getter(alloc: Global) -> Result<Atomic, NoMemory>
+    ensures { IfOk result (λ a. a ≡ getter) }
+{
+    let mut acts = Items::new(alloc);
+    acts.push((name(alloc, b'a')?, taking(alloc, 0, 1, 1, 0)?))?;
+    acts.push((name(alloc, b'b')?, taking(alloc, 5, 1, 2, 0)?))?;
+    Ok(Atomic {
+        name: name(alloc, b'a')?,
+        initial: Items::from_slice(alloc, &[0, 0])?,
+        instants: instants(alloc, acts.as_slice())?,
+        acts,
+        rates: Items::new(alloc),
+        impulses: Items::new(alloc),
+    })
+}
+
+fn put_part(alloc: Global) -> Result<Part, NoMemory>
+    ensures { IfOk result (λ p. p ≡ put_part) }
+{
+    let mut slots = Items::new(alloc);
+    slots.push(Slot::Shared(PlaceId(0)))?;
+    slots.push(Slot::Private(PlaceId(1)))?;
+    Ok(Part {
+        leaf: LeafId(0),
+        first: ActId(0),
+        atomic: Shared::new(alloc, putter(alloc)?)?,
+        slots,
+    })
+}
+
+fn get_part(alloc: Global) -> Result<Part, NoMemory>
+    ensures { IfOk result (λ p. p ≡ get_part) }
+{
+    let mut slots = Items::new(alloc);
+    slots.push(Slot::Private(PlaceId(2)))?;
+    slots.push(Slot::Shared(PlaceId(0)))?;
+    Ok(Part {
+        leaf: LeafId(1),
+        first: ActId(1),
+        atomic: Shared::new(alloc, getter(alloc)?)?,
+        slots,
+    })
+}
+
+fn put_and_get(alloc: Global) -> Result<Flat, NoMemory>
+    ensures { IfOk result (λ flat. flat ≡ put_and_get) }
+{
+    let mut parts = Vec::new(alloc);
+    parts.push(Shared::new(alloc, put_part(alloc)?)?)?;
+    parts.push(Shared::new(alloc, get_part(alloc)?)?)?;
+    let mut paths = Vec::new(alloc);
+    paths.push(Path::new(Vec::from_slice(alloc, b"a")?))?;
+    paths.push(Path::new(Vec::from_slice(alloc, b"b")?))?;
+    let mut rewards = Vec::new(alloc);
+    rewards.push(Reward {
+        name: name(alloc, b'a')?,
+        atomic: 0,
+        span: Span::At(Tick(6)),
+    })?;
+    let initial = Vec::from_slice(alloc, &[0, 1, 0])?;
+    two_leaves_are_a_network();
+    Flat::assemble(alloc, parts, paths, initial, 1, rewards)
+}
+
+#[test]
+fn assembled_and_read_back(rt: HostRuntime) -> Result<(), Fail> {
+    let flat = put_and_get(rt.alloc())?;
+    assert_eq!(rt;
+        (flat.leaves(), flat.acts(), flat.places(), flat.shared()),
+        (2, 3, 3, 1)
+    );
+    assert_eq!(rt; flat.path(LeafId(0)), b"a".as_slice());
+    assert_eq!(rt; flat.path(LeafId(1)), b"b".as_slice());
+    let (put, get) = (flat.part(LeafId(0)).get(), flat.part(LeafId(1)).get());
+    assert_eq!(rt; (put.leaf, put.first), (LeafId(0), ActId(0)));
+    assert_eq!(rt; (get.leaf, get.first), (LeafId(1), ActId(1)));
+    let put_slots = [Slot::Shared(PlaceId(0)), Slot::Private(PlaceId(1))];
+    let get_slots = [Slot::Private(PlaceId(2)), Slot::Shared(PlaceId(0))];
+    assert_eq!(rt; put.slots.as_slice(), put_slots.as_slice());
+    assert_eq!(rt; get.slots.as_slice(), get_slots.as_slice());
+    assert!(rt; put.atomic.get().same(&putter(rt.alloc())?));
+    assert!(rt; get.atomic.get().same(&getter(rt.alloc())?));
+    assert_eq!(rt; flat.rewards().len(), 1);
+    assert!(rt; flat.same(&put_and_get(rt.alloc())?));
+    Ok(())
+}
+
+#[test]
+fn places_and_activities(rt: HostRuntime) -> Result<(), Fail> {
+    let flat = put_and_get(rt.alloc())?;
+    let places: [(u32, u32, &[LeafId]); 3] = [
+        (0, 0, &[LeafId(0), LeafId(1)]),
+        (1, 1, &[LeafId(0)]),
+        (2, 0, &[LeafId(1)]),
+    ];
+    for (place, initial, importers) in places {
+        if place < flat.places() {
+            assert_eq!(rt; flat.initial(PlaceId(place)), initial, "at {place}");
+            assert_eq!(rt; flat.importers(PlaceId(place)), importers, "at {place}");
+        }
+    }
+    for (act, leaf) in [(0, 0), (1, 1), (2, 1)] {
+        if act < flat.acts() {
+            assert_eq!(rt; flat.leaf_of(ActId(act)), LeafId(leaf), "at {act}");
+        }
+    }
+    Ok(())
+}
+
+/// `place n; place s; instant a { gate 1 / 0; } instant b priority 5 { in s; out n; }`
+fn trapping(alloc: Global) -> Result<Atomic, NoMemory> {
+    let broken = Expr::Binary(
+        Op::Div,
+        Boxed::new(alloc, Expr::Number(1))?,
+        Boxed::new(alloc, Expr::Number(0))?,
+    );
+    let mut inputs = Items::new(alloc);
+    inputs.push(Input::Gate(broken, Items::new(alloc)))?;
+    let gated = Activity {
+        kind: ActKind::Instant { priority: 0 },
+        inputs,
+        cases: one_case(alloc, 0)?,
+    };
+    let mut acts = Items::new(alloc);
+    acts.push((name(alloc, b'a')?, gated))?;
+    acts.push((name(alloc, b'b')?, taking(alloc, 5, 1, 1, 0)?))?;
+    atomic_with(alloc, acts)
+}
+
+/// An atomic of two empty places with these activities, at most two.
+fn atomic_with(alloc: Global, acts: Items<(Name, Activity)>) -> Result<Atomic, NoMemory> {
+    let order = if acts.len() <= 2 {
+        instants(alloc, acts.as_slice())?
+    } else {
+        Items::new(alloc)
+    };
+    Ok(Atomic {
+        name: name(alloc, b'a')?,
+        initial: Items::from_slice(alloc, &[0, 0])?,
+        instants: order,
+        acts,
+        rates: Items::new(alloc),
+        impulses: Items::new(alloc),
+    })
+}
+
+/// Two activities of one priority.
+fn equal(alloc: Global) -> Result<Atomic, NoMemory> {
+    let mut acts = Items::new(alloc);
+    acts.push((name(alloc, b'a')?, taking(alloc, 3, 1, 1, 0)?))?;
+    acts.push((name(alloc, b'b')?, taking(alloc, 3, 1, 1, 0)?))?;
+    atomic_with(alloc, acts)
+}
+
+/// What stands first at these tokens, or none where the atomic has other cells.
+fn first_at(alloc: Global, atomic: &Atomic, tokens: [u32; 2]) -> Result<Option<Found>, NoMemory> {
+    let mut view = Marking::new(Vec::from_slice(alloc, &tokens)?);
+    if view.as_slice().len() == 2 && acts_below(atomic.acts.as_slice(), 2) {
+        Ok(Some(first_instant(atomic, &mut view)))
+    } else {
+        Ok(None)
+    }
+}
+
+/// The getter, the putter, the one that traps and the one of equal priorities.
+fn atomics(alloc: Global) -> Result<[Atomic; 4], NoMemory> {
+    Ok([
+        getter(alloc)?,
+        putter(alloc)?,
+        trapping(alloc)?,
+        equal(alloc)?,
+    ])
+}
+
+#[test]
+fn first_by_priority(rt: HostRuntime) -> Result<(), Fail> {
+    let alloc = rt.alloc();
+    let atomics = atomics(alloc)?;
+    let table: [(usize, [u32; 2], Found); 7] = [
+        (0, [9, 0], Found::Nothing),
+        (0, [0, 1], Found::Enabled(0)),
+        (0, [0, 2], Found::Enabled(1)),
+        (1, [1, 1], Found::Nothing),
+        (2, [0, 0], Found::Broken(0, Trap::Arith)),
+        (2, [0, 1], Found::Enabled(1)),
+        (3, [0, 1], Found::Enabled(0)),
+    ];
+    for (at, tokens, want) in table {
+        let found = match atomics.get(at) {
+            Some(atomic) => first_at(alloc, atomic, tokens)?,
+            None => None,
+        };
+        assert_eq!(rt; found, Some(want), "at {at} {tokens:?}");
+    }
+    Ok(())
+}
