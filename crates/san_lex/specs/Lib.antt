@@ -3,3 +3,4 @@ pub mod Keywords
 pub mod Lexing
 pub mod Pieces
 pub mod Words
+pub mod Layout

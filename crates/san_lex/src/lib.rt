@@ -3,11 +3,13 @@
 
 mod byte;
 mod keyword;
+mod laws;
 mod lexing;
 mod piece;
 mod sign;
 mod token;
 
+pub use laws::{read_words_can_be_written, written_words_are_read};
 pub use lexing::tokens;
 pub use san_base::Op;
 pub use sign::{Keyword, Mark, Sign};

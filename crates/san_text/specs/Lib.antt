@@ -1,2 +1,14 @@
 pub mod First
 pub mod Word
+pub mod Words
+pub mod Reading
+pub mod Expressions
+pub mod Answers
+pub mod Statements
+pub mod Activities
+pub mod Models
+pub mod Texts
+pub mod Faults
+pub mod Spelling
+pub mod ActivityWords
+pub mod ModelWords

@@ -68,7 +68,8 @@ fn initial_of(text: &[u8], at: usize) -> Option<(u64, usize)>
 fn place_of(text: &[u8], at: usize) -> Option<(Span, u64, usize)>
     requires { at ≤ length text.now }
     ensures value { result ≡ place_of text.now at }
-    ensures within { IfSome result (λ place. IsNamed text.now place.0 × (place.2 ≤ length text.now)) }
+    ensures within { IfSome result (λ place. IsNamed text.now place.0
+        × (place.2 ≤ length text.now)) }
 {
     let at = keyword_at(text, at, b"place")?;
     let name = name_at(text, at)?;
@@ -105,7 +106,8 @@ fn delay_of(text: &[u8], at: usize) -> Option<(u64, usize)>
 fn timed_of(text: &[u8], at: usize) -> Option<(Span, usize)>
     requires { at ≤ length text.now }
     ensures value { result ≡ timed_of text.now at }
-    ensures within { IfSome result (λ timed. IsNamed text.now timed.0 × (timed.1 ≤ length text.now)) }
+    ensures within { IfSome result (λ timed. IsNamed text.now timed.0
+        × (timed.1 ≤ length text.now)) }
 {
     let at = keyword_at(text, at, b"timed")?;
     let name = name_at(text, at)?;

@@ -1,8 +1,37 @@
-//! Texts of the first form: one atomic with one place and one timed activity of fixed delay.
+//! Reads model texts: what a text parses to, or its first fault. Texts of the first form, which
+//! have one atomic with one place and one timed activity, have a reader of their own.
 #![tactic(auto)]
 
+mod act;
+mod delay;
+mod expr;
 mod first;
+mod input;
+mod laws;
+mod model;
+mod output;
+mod place;
+mod reading;
+mod reward;
+mod same;
+mod stmt;
+mod syntax;
+mod text;
+mod whole;
 mod word;
+mod words;
 
 pub use first::{FirstFault, parse_first};
+pub use laws::{
+    activity_is_read_again, agreeing_texts_are_refused_there_too, block_is_read_again,
+    expression_is_read_again, model_is_read_again, reward_is_read_again,
+    spots_are_those_of_the_words, statement_is_read_again, syntax_is_read_again,
+};
+pub use same::Same;
+pub use san_base::Op;
+pub use syntax::{
+    ActDecl, Ast, CaseDecl, Cases, ChildDecl, DistDecl, InputDecl, ModelDecl, OutputDecl,
+    PlaceDecl, RewardDecl, ShareDecl, SpanDecl, StmtDecl, Syntax, TermDecl, Timing,
+};
+pub use text::{ParseFault, Parsed, Refusal, parse, spot};
 pub use word::value_of;
