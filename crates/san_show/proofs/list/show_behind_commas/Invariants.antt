@@ -1,0 +1,7 @@
+use Rattle.std.proofs.Common.{◌≡◌, drop}
+use Rattle.san_show.specs.Pages.{written}
+use Rattle.san_show.proofs.PageLemmas.{all_words, behind_comma}
+use Rattle.san_show.proofs.list.show_behind_commas.Given as goal
+
+abbrev pub invariant-next : goal.invariant-next
+invariant-next g l = written l.page (all_words (behind_comma g.T.Shown.words) (drop l.item-index l.items)) ≡ written l.initial.page (all_words (behind_comma g.T.Shown.words) l.items)
