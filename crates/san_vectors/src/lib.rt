@@ -5,9 +5,15 @@
 #[cfg(test)]
 mod activities;
 #[cfg(test)]
+mod canonical;
+#[cfg(test)]
+mod checked;
+#[cfg(test)]
 mod draws;
 #[cfg(test)]
 mod first_form;
+#[cfg(test)]
+mod grammar;
 #[cfg(test)]
 mod network;
 #[cfg(test)]

@@ -1,0 +1,11 @@
+pub mod EntryLemmas
+pub mod TableLemmas
+pub mod ExprLemmas
+pub mod LoopLemmas
+pub mod FreeLemmas
+pub mod TreeLemmas
+pub mod NumberLemmas
+pub mod OnceLemmas
+pub mod ListedLemmas
+pub mod KeepsLemmas
+pub mod WordLemmas

@@ -1,0 +1,29 @@
+-- A turn of a loop over declarations.
+use Rattle.std.proofs.Common.{◌≡◌, ℕ, ◌+◌, ◌<◌, List, [], ◌∷◌, ◌++◌, length, drop, get_or, map, append_assoc, sym, ap, ◌∙◌, drop-cons}
+use Rattle.san_check.specs.declared.walk.Walk.{Walk}
+use Rattle.san_check.specs.Entries.{Entries, seen_all}
+use Rattle.san_check.proofs.EntryLemmas.{part_goes_on, dropped}
+
+-- what declarations make of what was known before them, one by one
+pub all_turn : {T D : Type 0} (all : T → List D → T) (next : T → D → T) → ((t : T) (d : D) (ds : List D) → all t (d ∷ ds) ≡ all (next t d) ds)
+    → (ds : List D) (i : ℕ) (d : D) (t t1 total : T) → i < length ds → d ≡ get_or ds i d → t1 ≡ next t d → all t (drop i ds) ≡ total → all t1 (drop (i + 1) ds) ≡ total
+all_turn all next cons ds i d t t1 total lt is e so_far =
+    ap (λ u. all u (drop (i + 1) ds)) e ∙ sym (cons t d (drop (i + 1) ds)) ∙ ap (all t) (sym (dropped ds i d lt is)) ∙ so_far
+
+-- the entries of declarations behind i others
+pub entries_turn : {T D : Type 0} (run : T → ℕ → List D → Entries) (here : T → ℕ → ℕ → D → Entries) (next : T → D → T) → ((t : T) (n : ℕ) (d : D) (ds : List D) → run t n (d ∷ ds) ≡ here t n (length ds) d ++ run (next t d) (n + 1) ds)
+    → (ds : List D) (i : ℕ) (d : D) (t t1 : T) (w w1 total : Walk) → i < length ds → d ≡ get_or ds i d → w1 ≡ seen_all w (here t i (length (drop (i + 1) ds)) d) → t1 ≡ next t d
+    → seen_all w (run t i (drop i ds)) ≡ total → seen_all w1 (run t1 (i + 1) (drop (i + 1) ds)) ≡ total
+entries_turn run here next cons ds i d t t1 w w1 total lt is h e so_far =
+    ap (λ u. seen_all w1 (run u (i + 1) (drop (i + 1) ds))) e
+    ∙ part_goes_on w w1 total (here t i (length (drop (i + 1) ds)) d) (run (next t d) (i + 1) (drop (i + 1) ds)) h
+    (ap (seen_all w) (sym (cons t i d (drop (i + 1) ds)) ∙ ap (run t i) (sym (dropped ds i d lt is))) ∙ so_far)
+
+-- which item an index gives doesn't hang on what stands behind the end
+pub same_item : {A : Type 0} (xs : List A) (i : ℕ) (a b : A) → i < length xs → get_or xs i a ≡ get_or xs i b
+same_item xs i a b lt = cc (drop-cons xs i a lt, drop-cons xs i b lt)
+
+-- what a list is made into, item by item
+pub map_turn : {D E : Type 0} (f : D → E) (ds : List D) (i : ℕ) (d : D) (v v1 : List E) (y : E) → i < length ds → d ≡ get_or ds i d → v1 ≡ v ++ y ∷ [] → y ≡ f d → v ++ map f (drop i ds) ≡ map f ds → v1 ++ map f (drop (i + 1) ds) ≡ map f ds
+map_turn f ds i d v v1 y lt is made at so_far =
+    ap (λ u. u ++ map f (drop (i + 1) ds)) (made ∙ ap (λ z. v ++ z ∷ []) at) ∙ append_assoc v (f d ∷ []) (map f (drop (i + 1) ds)) ∙ ap (λ zs. v ++ map f zs) (sym (dropped ds i d lt is)) ∙ so_far

@@ -1,0 +1,10 @@
+use Rattle.std.proofs.Common.{sym, ap, ◌∙◌}
+use Rattle.std.specs.Str.{bytes_eq}
+use Rattle.san_check.specs.Tables.{Table, is_known}
+use Rattle.san_check.proofs.TableLemmas.{known_both}
+use Rattle.san_check.proofs.table.Index.is_known.Goals as goal
+
+pub returns : goal.returns
+returns g c =
+    c.contains_key.ensures ∙ sym (known_both (λ k. k.now) (λ v. v.now) (bytes_eq c.args.name.now) c.self.inside.known.entries)
+    ∙ ap (λ (t : Table g.row.V.Denot). is_known t c.args.name.now) c.self.view_is

@@ -1,0 +1,11 @@
+pub mod Tables
+pub mod Entries
+pub mod Expressions
+pub mod Activities
+pub mod Atomics
+pub mod Compositions
+pub mod Rewards
+pub mod Texts
+pub mod Nodes
+pub mod Answers
+pub mod Examples

@@ -1,0 +1,900 @@
+//! Texts that the checks accept, and texts beside them that they refuse, each with its code and the
+//! byte at which the refused word begins; all worked out by hand.
+
+ghost use Rattle.std.specs.Prelude.{◌≤◌, length};
+
+use san_check::{CheckFault, first_fault, tree_of};
+use san_text::parse;
+use san_tree::Home;
+use std::alloc::Global;
+use std::test::Fail;
+
+/// A text that no check refuses, the text beside it that one does, the code, and the place.
+type Row = (&'static [u8], &'static [u8], u32, u32);
+
+/// Names that are declared twice, or not at all.
+const NAMES: [Row; 29] = [
+    (
+        b"san 1; atomic x { place p; place q; } system x;",
+        b"san 1; atomic x { place p; place p; } system x;",
+        20,
+        33,
+    ),
+    (
+        b"san 1; atomic x { place p; instant t { } } system x;",
+        b"san 1; atomic x { place p; instant p { } } system x;",
+        20,
+        35,
+    ),
+    (
+        b"san 1; atomic x { instant t { } timed u { delay det 1; } } system x;",
+        b"san 1; atomic x { instant t { } timed t { delay det 1; } } system x;",
+        20,
+        38,
+    ),
+    (
+        b"san 1; atomic x { } join y { } system x;",
+        b"san 1; atomic x { } join x { } system x;",
+        20,
+        25,
+    ),
+    (
+        b"san 1; atomic x { } rep y = x times 1 { } system x;",
+        b"san 1; atomic x { } rep x = x times 1 { } system x;",
+        20,
+        24,
+    ),
+    (
+        b"san 1; atomic x { } join j { child a = x; child b = x; } system j;",
+        b"san 1; atomic x { } join j { child a = x; child a = x; } system j;",
+        20,
+        48,
+    ),
+    (
+        b"san 1; atomic x { place p; place q; } join j { child a = x; share s = a.p; share t = a.q; } system j;",
+        b"san 1; atomic x { place p; place q; } join j { child a = x; share s = a.p; share s = a.q; } system j;",
+        20,
+        81,
+    ),
+    (
+        b"san 1; atomic x { place p; place q; } rep r = x times 2 { share p; share q; } system r;",
+        b"san 1; atomic x { place p; place q; } rep r = x times 2 { share p; share p; } system r;",
+        20,
+        73,
+    ),
+    (
+        b"san 1; atomic x {  } system x; reward r on x at 1 { } reward s on x at 1 { }",
+        b"san 1; atomic x {  } system x; reward r on x at 1 { } reward r on x at 1 { }",
+        20,
+        61,
+    ),
+    (
+        b"san 1; atomic x { place p; instant t { in p; } } system x;",
+        b"san 1; atomic x { place p; instant t { in q; } } system x;",
+        21,
+        42,
+    ),
+    (
+        b"san 1; atomic x { place p; instant t { gate p; } } system x;",
+        b"san 1; atomic x { place p; instant t { gate t; } } system x;",
+        21,
+        44,
+    ),
+    (
+        b"san 1; atomic x { place p; instant t { out p; } } system x;",
+        b"san 1; atomic x { place p; instant t { out q; } } system x;",
+        21,
+        43,
+    ),
+    (
+        b"san 1; atomic x { place p; instant t { do { p = 1; } } } system x;",
+        b"san 1; atomic x { place p; instant t { do { q = 1; } } } system x;",
+        21,
+        44,
+    ),
+    (
+        b"san 1; atomic x { place p; instant t { do { if p { } else { p = -p; } } } } system x;",
+        b"san 1; atomic x { place p; instant t { do { if p { } else { p = -q; } } } } system x;",
+        21,
+        65,
+    ),
+    (
+        b"san 1; atomic x { place p; instant t { gate 1 do { p = (p + 2) * 3; } } } system x;",
+        b"san 1; atomic x { place p; instant t { gate 1 do { p = (q + 2) * 3; } } } system x;",
+        21,
+        56,
+    ),
+    (
+        b"san 1; atomic x { place p; timed t { delay det p; react p, !p; case p { } } } system x;",
+        b"san 1; atomic x { place p; timed t { delay det p; react p, !q; case p { } } } system x;",
+        21,
+        60,
+    ),
+    (
+        b"san 1; atomic x { place p; timed t { delay uniform p, p; case p { } } } system x;",
+        b"san 1; atomic x { place p; timed t { delay uniform p, p; case q { } } } system x;",
+        21,
+        62,
+    ),
+    (
+        b"san 1; atomic x { place p; timed t { delay uniform p, p; } } system x;",
+        b"san 1; atomic x { place p; timed t { delay uniform p, q; } } system x;",
+        21,
+        54,
+    ),
+    (
+        b"san 1; atomic x { place p; } system x; reward r on x at 1 { rate p; }",
+        b"san 1; atomic x { place p; } system x; reward r on x at 1 { rate q; }",
+        21,
+        65,
+    ),
+    (
+        b"san 1; atomic x { place p; } atomic y { place q; instant t { in q; } } system x;",
+        b"san 1; atomic x { place p; } atomic y { place q; instant t { in p; } } system x;",
+        21,
+        64,
+    ),
+    (
+        b"san 3; atomic x { place p; place q[2]; instant t { do { q[p] = q[p]; } } } system x;",
+        b"san 3; atomic x { place p; place q[2]; instant t { do { q[p] = q[r]; } } } system x;",
+        21,
+        65,
+    ),
+    (
+        b"san 1; atomic x { } join j { child a = x; } system j;",
+        b"san 1; atomic x { } join j { child a = y; } system j;",
+        22,
+        39,
+    ),
+    (
+        b"san 1; atomic x { } join j { child a = x; } system j;",
+        b"san 1; atomic x { } join j { child a = j; } system j;",
+        22,
+        39,
+    ),
+    (
+        b"san 1; atomic x { } rep r = x times 2 { } system r;",
+        b"san 1; rep r = x times 2 { } atomic x { } system r;",
+        22,
+        15,
+    ),
+    (
+        b"san 1; atomic x { } system x;",
+        b"san 1; atomic x { } system y;",
+        22,
+        27,
+    ),
+    (
+        b"san 1; atomic x { } join j { } system x; reward r on x at 1 { }",
+        b"san 1; atomic x { } join j { } system x; reward r on j at 1 { }",
+        23,
+        53,
+    ),
+    (
+        b"san 1; atomic x { } system x; reward r on x at 1 { }",
+        b"san 1; atomic x { } system x; reward r on y at 1 { }",
+        23,
+        42,
+    ),
+    (
+        b"san 1; atomic x { timed t { delay det 1; }  } system x; reward r on x over 0 1 { impulse t 1; }",
+        b"san 1; atomic x { timed t { delay det 1; }  } system x; reward r on x over 0 1 { impulse u 1; }",
+        24,
+        89,
+    ),
+    (
+        b"san 1; atomic x { place p; timed t { delay det 1; }  } system x; reward r on x over 0 1 { impulse t p; }",
+        b"san 1; atomic x { place p; timed t { delay det 1; }  } system x; reward r on x over 0 1 { impulse p p; }",
+        24,
+        98,
+    ),
+];
+
+/// Shares and copies.
+const SHARES: [Row; 18] = [
+    (
+        b"san 1; atomic x { place p; place q; } join j { child a = x; child b = x; share s = a.p; } system j;",
+        b"san 1; atomic x { place p; place q; } join j { child a = x; child b = x; share s = c.p; } system j;",
+        25,
+        83,
+    ),
+    (
+        b"san 1; atomic x { place p; place q; } join j { child a = x; child b = x; share s = a.p, b.q; } system j;",
+        b"san 1; atomic x { place p; place q; } join j { child a = x; child b = x; share s = a.p, x.q; } system j;",
+        25,
+        88,
+    ),
+    (
+        b"san 1; atomic x { place p; place q; } join j { child a = x; child b = x; share s = a.p, b.q; } system j;",
+        b"san 1; atomic x { place p; place q; } join j { child a = x; child b = x; share s = a.p, b.r; } system j;",
+        26,
+        90,
+    ),
+    (
+        b"san 1; atomic x { place p; } join j { child a = x; share s = a.p; } join k { child b = j; share t = b.s; } system k;",
+        b"san 1; atomic x { place p; } join j { child a = x; share s = a.p; } join k { child b = j; share t = b.p; } system k;",
+        26,
+        102,
+    ),
+    (
+        b"san 1; atomic x { place p; } rep r = x times 2 { share p; } join k { child b = r; share t = b.p; } system k;",
+        b"san 1; atomic x { place p; } rep r = x times 2 { } join k { child b = r; share t = b.p; } system k;",
+        26,
+        85,
+    ),
+    (
+        b"san 1; atomic x { place p; place q; } join j { child a = x; child b = x; share s = a.p, b.q; } system j;",
+        b"san 1; atomic x { place p; place q; } join j { child a = x; child b = x; share s = a.p, a.q; } system j;",
+        27,
+        88,
+    ),
+    (
+        b"san 1; atomic x { place p; place q; } join j { child a = x; child b = x; child c = x; share s = a.p, b.p, c.p; } system j;",
+        b"san 1; atomic x { place p; place q; } join j { child a = x; child b = x; child c = x; share s = a.p, b.p, a.p; } system j;",
+        27,
+        106,
+    ),
+    (
+        b"san 1; atomic x { place p; place q; } join j { child a = x; child b = x; share s = a.p; share t = a.q; } system j;",
+        b"san 1; atomic x { place p; place q; } join j { child a = x; child b = x; share s = a.p; share t = a.p; } system j;",
+        28,
+        100,
+    ),
+    (
+        b"san 1; atomic x { place p; place q; } join j { child a = x; child b = x; share s = a.p; share u = b.p; share t = b.q, a.q; } system j;",
+        b"san 1; atomic x { place p; place q; } join j { child a = x; child b = x; share s = a.p; share u = b.p; share t = b.q, a.p; } system j;",
+        28,
+        120,
+    ),
+    (
+        b"san 1;\natomic a { place p = 1; }\natomic b { place q = 1; }\njoin j { child x = a; child y = b; share s = x.p, y.q; }\nsystem j;\n",
+        b"san 1;\natomic a { place p = 1; }\natomic b { place q = 2; }\njoin j { child x = a; child y = b; share s = x.p, y.q; }\nsystem j;\n",
+        29,
+        111,
+    ),
+    (
+        b"san 1; atomic x { place p = 3; } rep r = x times 2 { share p; } join j { child a = x; child b = r; share s = a.p, b.p; } system j;",
+        b"san 1; atomic x { place p = 3; place q; } rep r = x times 2 { share p; } join j { child a = x; child b = r; share s = a.q, b.p; } system j;",
+        29,
+        125,
+    ),
+    (
+        b"san 1; atomic x { place p; place q; } rep r = x times 2 { share q; } system r;",
+        b"san 1; atomic x { place p; place q; } rep r = x times 2 { share r; } system r;",
+        30,
+        64,
+    ),
+    (
+        b"san 1; atomic x { place t; } rep r = x times 2 { share t; } system r;",
+        b"san 1; atomic x { instant t { } } rep r = x times 2 { share t; } system r;",
+        30,
+        60,
+    ),
+    (
+        b"san 1; atomic x { } rep r = x times 1 { } system r;",
+        b"san 1; atomic x { } rep r = x times 0 { } system r;",
+        37,
+        36,
+    ),
+    (
+        b"san 1; atomic x { } rep r = x times 4096 { } system r;",
+        b"san 1; atomic x { } rep r = x times 4097 { } system r;",
+        37,
+        36,
+    ),
+    (
+        b"san 3; atomic x { place p[2]; } atomic y { place p[2]; } join j { child a = x; child b = y; share s = a.p, b.p; } system j;",
+        b"san 3; atomic x { place p[2]; } atomic y { place p; } join j { child a = x; child b = y; share s = a.p, b.p; } system j;",
+        55,
+        106,
+    ),
+    (
+        b"san 3; atomic x { place p; } atomic y { place p; } join j { child a = x; child b = y; share s = a.p, b.p; } system j;",
+        b"san 3; atomic x { place p; } atomic y { place p[1]; } join j { child a = x; child b = y; share s = a.p, b.p; } system j;",
+        55,
+        106,
+    ),
+    (
+        b"san 3; atomic x { place p[2]; } atomic y { place p[2]; } join j { child a = x; child b = y; share s = a.p, b.p; } system j;",
+        b"san 3; atomic x { place p[2]; } atomic y { place p[3]; } join j { child a = x; child b = y; share s = a.p, b.p; } system j;",
+        55,
+        109,
+    ),
+];
+
+/// Numbers out of range, and places with and without an index.
+const NUMBERS: [Row; 39] = [
+    (
+        b"san 1; atomic x { place p = 2147483647; } system x;",
+        b"san 1; atomic x { place p = 2147483648; } system x;",
+        31,
+        28,
+    ),
+    (
+        b"san 3; atomic x { place q[2] = 2147483647; } system x;",
+        b"san 3; atomic x { place q[2] = 9223372036854775807; } system x;",
+        31,
+        31,
+    ),
+    (
+        b"san 1; atomic x { place p; instant t { in p 2147483647; } } system x;",
+        b"san 1; atomic x { place p; instant t { in p 2147483648; } } system x;",
+        32,
+        44,
+    ),
+    (
+        b"san 1; atomic x { place p; instant t { in p 1; } } system x;",
+        b"san 1; atomic x { place p; instant t { in p 0; } } system x;",
+        32,
+        44,
+    ),
+    (
+        b"san 1; atomic x { place p; instant t { out p 1; } } system x;",
+        b"san 1; atomic x { place p; instant t { out p 0; } } system x;",
+        32,
+        45,
+    ),
+    (
+        b"san 1; atomic x { timed t { delay geom 1 1; } } system x;",
+        b"san 1; atomic x { timed t { delay geom 0 1; } } system x;",
+        33,
+        39,
+    ),
+    (
+        b"san 1; atomic x { timed t { delay geom 1000 1000; } } system x;",
+        b"san 1; atomic x { timed t { delay geom 1001 1001; } } system x;",
+        33,
+        39,
+    ),
+    (
+        b"san 1; atomic x { timed t { delay geom 5 5; } } system x;",
+        b"san 1; atomic x { timed t { delay geom 5 4; } } system x;",
+        33,
+        41,
+    ),
+    (
+        b"san 1; atomic x { timed t { delay geom 1 1000; } } system x;",
+        b"san 1; atomic x { timed t { delay geom 1 1001; } } system x;",
+        33,
+        41,
+    ),
+    (
+        b"san 1; atomic x { timed t { delay table 1:1; } } system x;",
+        b"san 1; atomic x { timed t { delay table 0:1; } } system x;",
+        34,
+        40,
+    ),
+    (
+        b"san 1; atomic x { timed t { delay table 1:1, 4294967296:1; } } system x;",
+        b"san 1; atomic x { timed t { delay table 1:1, 4294967297:1; } } system x;",
+        34,
+        45,
+    ),
+    (
+        b"san 1; atomic x { timed t { delay table 1:4294967296; } } system x;",
+        b"san 1; atomic x { timed t { delay table 1:4294967297; } } system x;",
+        35,
+        42,
+    ),
+    (
+        b"san 1; atomic x { timed t { delay table 1:4294967295, 2:1, 3:0; } } system x;",
+        b"san 1; atomic x { timed t { delay table 1:4294967295, 2:2, 3:0; } } system x;",
+        35,
+        56,
+    ),
+    (
+        b"san 1; atomic x { timed t { delay table 1:4294967296, 2:0; } } system x;",
+        b"san 1; atomic x { timed t { delay table 1:9223372036854775807, 2:9223372036854775807, 3:9223372036854775807; } } system x;",
+        35,
+        42,
+    ),
+    (
+        b"san 1; atomic x { timed t { delay table 1:1; } } system x;",
+        b"san 1; atomic x { timed t { delay table 1:0; } } system x;",
+        36,
+        42,
+    ),
+    (
+        b"san 1; atomic x { timed t { delay table 1:0, 2:1; } } system x;",
+        b"san 1; atomic x { timed t { delay table 1:0, 2:0; } } system x;",
+        36,
+        47,
+    ),
+    (
+        b"san 1; atomic x {  } system x; reward r on x over 0 1 { }",
+        b"san 1; atomic x {  } system x; reward r on x over 1 1 { }",
+        38,
+        52,
+    ),
+    (
+        b"san 1; atomic x {  } system x; reward r on x over 0 1000000000001 { }",
+        b"san 1; atomic x {  } system x; reward r on x over 0 1000000000002 { }",
+        38,
+        52,
+    ),
+    (
+        b"san 1; atomic x {  } system x; reward r on x mean 5 6 { }",
+        b"san 1; atomic x {  } system x; reward r on x mean 5 5 { }",
+        38,
+        52,
+    ),
+    (
+        b"san 1; atomic x {  } system x; reward r on x mean 1000000000000 1000000000001 { }",
+        b"san 1; atomic x {  } system x; reward r on x mean 1000000000001 1000000000002 { }",
+        38,
+        64,
+    ),
+    (
+        b"san 1; atomic x {  } system x; reward r on x at 1000000000000 { }",
+        b"san 1; atomic x {  } system x; reward r on x at 1000000000001 { }",
+        38,
+        48,
+    ),
+    (
+        b"san 1; atomic x { timed t { delay det 1; }  } system x; reward r on x over 1 2 { impulse t 1; }",
+        b"san 1; atomic x { timed t { delay det 1; }  } system x; reward r on x at 1 { impulse t 1; }",
+        39,
+        85,
+    ),
+    (
+        b"san 1; atomic x { timed t { delay det 1; }  } system x; reward r on x at 1 { rate 1; rate 2; }",
+        b"san 1; atomic x { timed t { delay det 1; }  } system x; reward r on x at 1 { rate 1; impulse t 2; }",
+        39,
+        93,
+    ),
+    (
+        b"san 3; atomic x { place q[255]; place p; } system x;",
+        b"san 3; atomic x { place q[256]; place p; } system x;",
+        40,
+        38,
+    ),
+    (
+        b"san 3; atomic x { place q[200]; place s[55]; place p; } system x;",
+        b"san 3; atomic x { place q[200]; place s[55]; place p; place o; } system x;",
+        40,
+        60,
+    ),
+    (
+        b"san 3; atomic x { place q[256]; } system x;",
+        b"san 3; atomic x { place q[257]; } system x;",
+        53,
+        26,
+    ),
+    (
+        b"san 3; atomic x { place q[1]; } system x;",
+        b"san 3; atomic x { place q[0]; } system x;",
+        53,
+        26,
+    ),
+    (
+        b"san 3; atomic x { place p; place q[255]; } system x;",
+        b"san 3; atomic x { place p; place q[256]; } system x;",
+        53,
+        35,
+    ),
+    (
+        b"san 3; atomic x { place q[1]; } system x;",
+        b"san 3; atomic x { place q[9223372036854775807]; place p[9223372036854775807]; place r[9223372036854775807]; } system x;",
+        53,
+        26,
+    ),
+    (
+        b"san 2; atomic x { instant t priority 1000 { } } system x;",
+        b"san 2; atomic x { instant t priority 1001 { } } system x;",
+        49,
+        37,
+    ),
+    (
+        b"san 3; atomic x { instant t priority 0 { } instant u priority 1000 { } } system x;",
+        b"san 3; atomic x { instant t priority 0 { } instant u priority 9223372036854775807 { } } system x;",
+        49,
+        62,
+    ),
+    (
+        b"san 3; atomic x { place q[2]; timed t { gate q[0]; delay det 1; } } system x;",
+        b"san 3; atomic x { place q[2]; timed t { gate q; delay det 1; } } system x;",
+        54,
+        45,
+    ),
+    (
+        b"san 3; atomic x { place p; place q[2]; instant t { do { q[0] = 1; } } } system x;",
+        b"san 3; atomic x { place p; place q[2]; instant t { do { q = 1; } } } system x;",
+        54,
+        56,
+    ),
+    (
+        b"san 3; atomic x { place p; place q[2]; instant t { do { p = 1; } } } system x;",
+        b"san 3; atomic x { place p; place q[2]; instant t { do { p[0] = 1; } } } system x;",
+        54,
+        56,
+    ),
+    (
+        b"san 3; atomic x { place p; place q[2]; instant t { in p; } } system x;",
+        b"san 3; atomic x { place p; place q[2]; instant t { in q; } } system x;",
+        54,
+        54,
+    ),
+    (
+        b"san 3; atomic x { place p; place q[2]; instant t { out p; } } system x;",
+        b"san 3; atomic x { place p; place q[2]; instant t { out q; } } system x;",
+        54,
+        55,
+    ),
+    (
+        b"san 3; atomic x { place p; place q[2]; instant t { gate p; } } system x;",
+        b"san 3; atomic x { place p; place q[2]; instant t { gate p[0]; } } system x;",
+        54,
+        56,
+    ),
+    (
+        b"san 3; atomic x { place p; place q[2]; instant t { gate q[q[0]]; } } system x;",
+        b"san 3; atomic x { place p; place q[2]; instant t { gate q[q]; } } system x;",
+        54,
+        58,
+    ),
+    (
+        b"san 3; atomic x { place p; place q[2];  } system x; reward r on x at 1 { rate q[1]; }",
+        b"san 3; atomic x { place p; place q[2];  } system x; reward r on x at 1 { rate q; }",
+        54,
+        78,
+    ),
+];
+
+/// One entry of a table too many, and one term of a reward.
+const COUNTS: [Row; 5] = [
+    (
+        b"san 1; atomic x { timed t { delay table 1:1, 1:1, 1:1, 1:1, 1:1, 1:1, 1:1, 1:1, 1:1, 1:1, 1:1, 1:1, 1:1, 1:1, 1:1, 1:1, 1:1, 1:1, 1:1, 1:1, 1:1, 1:1, 1:1, 1:1, 1:1, 1:1, 1:1, 1:1, 1:1, 1:1, 1:1, 1:1, 1:1, 1:1, 1:1, 1:1, 1:1, 1:1, 1:1, 1:1, 1:1, 1:1, 1:1, 1:1, 1:1, 1:1, 1:1, 1:1, 1:1, 1:1, 1:1, 1:1, 1:1, 1:1, 1:1, 1:1, 1:1, 1:1, 1:1, 1:1, 1:1, 1:1, 1:1, 1:1; } } system x;",
+        b"san 1; atomic x { timed t { delay table 1:1, 1:1, 1:1, 1:1, 1:1, 1:1, 1:1, 1:1, 1:1, 1:1, 1:1, 1:1, 1:1, 1:1, 1:1, 1:1, 1:1, 1:1, 1:1, 1:1, 1:1, 1:1, 1:1, 1:1, 1:1, 1:1, 1:1, 1:1, 1:1, 1:1, 1:1, 1:1, 1:1, 1:1, 1:1, 1:1, 1:1, 1:1, 1:1, 1:1, 1:1, 1:1, 1:1, 1:1, 1:1, 1:1, 1:1, 1:1, 1:1, 1:1, 1:1, 1:1, 1:1, 1:1, 1:1, 1:1, 1:1, 1:1, 1:1, 1:1, 1:1, 1:1, 1:1, 1:1, 1:1; } } system x;",
+        46,
+        360,
+    ),
+    (
+        b"san 1; atomic x { timed t { delay table 1:1, 1:1, 1:1, 1:1, 1:1, 1:1, 1:1, 1:1, 1:1, 1:1, 1:1, 1:1, 1:1, 1:1, 1:1, 1:1, 1:1, 1:1, 1:1, 1:1, 1:1, 1:1, 1:1, 1:1, 1:1, 1:1, 1:1, 1:1, 1:1, 1:1, 1:1, 1:1, 1:1, 1:1, 1:1, 1:1, 1:1, 1:1, 1:1, 1:1, 1:1, 1:1, 1:1, 1:1, 1:1, 1:1, 1:1, 1:1, 1:1, 1:1, 1:1, 1:1, 1:1, 1:1, 1:1, 1:1, 1:1, 1:1, 1:1, 1:1, 1:1, 1:1, 1:1, 1:1; } } system x;",
+        b"san 1; atomic x { timed t { delay table 1:1, 1:1, 1:1, 1:1, 1:1, 1:1, 1:1, 1:1, 1:1, 1:1, 1:1, 1:1, 1:1, 1:1, 1:1, 1:1, 1:1, 1:1, 1:1, 1:1, 1:1, 1:1, 1:1, 1:1, 1:1, 1:1, 1:1, 1:1, 1:1, 1:1, 1:1, 1:1, 1:1, 1:1, 1:1, 1:1, 1:1, 1:1, 1:1, 1:1, 1:1, 1:1, 1:1, 1:1, 1:1, 1:1, 1:1, 1:1, 1:1, 1:1, 1:1, 1:1, 1:1, 1:1, 1:1, 1:1, 1:1, 1:1, 1:1, 1:1, 1:1, 1:1, 1:1, 1:1, 1:1, 0:0; } } system x;",
+        46,
+        360,
+    ),
+    (
+        b"san 1; atomic x { place p; place q; timed t { delay det 1; }  } system x; reward r on x over 0 9 { rate 1; rate 1; rate 1; rate 1; rate 1; rate 1; rate 1; rate 1; rate 1; rate 1; rate 1; rate 1; rate 1; rate 1; rate 1; rate 1; }",
+        b"san 1; atomic x { place p; place q; timed t { delay det 1; }  } system x; reward r on x over 0 9 { rate 1; rate 1; rate 1; rate 1; rate 1; rate 1; rate 1; rate 1; rate 1; rate 1; rate 1; rate 1; rate 1; rate 1; rate 1; rate 1; rate 1; }",
+        47,
+        232,
+    ),
+    (
+        b"san 1; atomic x { place p; place q; timed t { delay det 1; }  } system x; reward r on x over 0 9 { rate 1; rate 1; rate 1; rate 1; rate 1; rate 1; rate 1; rate 1; rate 1; rate 1; rate 1; rate 1; rate 1; rate 1; rate 1; rate -(p + q); }",
+        b"san 1; atomic x { place p; place q; timed t { delay det 1; }  } system x; reward r on x over 0 9 { rate 1; rate 1; rate 1; rate 1; rate 1; rate 1; rate 1; rate 1; rate 1; rate 1; rate 1; rate 1; rate 1; rate 1; rate 1; rate 1; rate -(p + q); }",
+        47,
+        234,
+    ),
+    (
+        b"san 1; atomic x { place p; place q; timed t { delay det 1; }  } system x; reward r on x over 0 9 { rate 1; rate 1; rate 1; rate 1; rate 1; rate 1; rate 1; rate 1; rate 1; rate 1; rate 1; rate 1; rate 1; rate 1; rate 1; impulse t p; }",
+        b"san 1; atomic x { place p; place q; timed t { delay det 1; }  } system x; reward r on x over 0 9 { rate 1; rate 1; rate 1; rate 1; rate 1; rate 1; rate 1; rate 1; rate 1; rate 1; rate 1; rate 1; rate 1; rate 1; rate 1; rate 1; impulse t p; }",
+        47,
+        235,
+    ),
+];
+
+/// Two codes at one word, of which the least is given, or at two words, of which the first.
+const TWO: [Row; 14] = [
+    (
+        b"san 3; atomic x { place q[255]; place p; } system x;",
+        b"san 3; atomic x { place q[256]; place q; } system x;",
+        20,
+        38,
+    ),
+    (
+        b"san 1; atomic x { place p; place q; timed t { delay det 1; }  } system x; reward r on x over 0 9 { rate 1; rate 1; rate 1; rate 1; rate 1; rate 1; rate 1; rate 1; rate 1; rate 1; rate 1; rate 1; rate 1; rate 1; rate 1; rate p; }",
+        b"san 1; atomic x { place p; place q; timed t { delay det 1; }  } system x; reward r on x over 0 9 { rate 1; rate 1; rate 1; rate 1; rate 1; rate 1; rate 1; rate 1; rate 1; rate 1; rate 1; rate 1; rate 1; rate 1; rate 1; rate 1; rate o; }",
+        21,
+        232,
+    ),
+    (
+        b"san 1; atomic x { place p; place q; timed t { delay det 1; }  } system x; reward r on x at 9 { rate 1; rate 1; rate 1; rate 1; rate 1; rate 1; rate 1; rate 1; rate 1; rate 1; rate 1; rate 1; rate 1; rate 1; rate 1; rate p; }",
+        b"san 1; atomic x { place p; place q; timed t { delay det 1; }  } system x; reward r on x at 9 { rate 1; rate 1; rate 1; rate 1; rate 1; rate 1; rate 1; rate 1; rate 1; rate 1; rate 1; rate 1; rate 1; rate 1; rate 1; rate 1; impulse o p; }",
+        24,
+        231,
+    ),
+    (
+        b"san 1; atomic x { place p; place q; timed t { delay det 1; }  } system x; reward r on x at 9 { rate 1; rate 1; rate 1; rate 1; rate 1; rate 1; rate 1; rate 1; rate 1; rate 1; rate 1; rate 1; rate 1; rate 1; rate 1; rate p; }",
+        b"san 1; atomic x { place p; place q; timed t { delay det 1; }  } system x; reward r on x at 9 { rate 1; rate 1; rate 1; rate 1; rate 1; rate 1; rate 1; rate 1; rate 1; rate 1; rate 1; rate 1; rate 1; rate 1; rate 1; rate 1; impulse t p; }",
+        39,
+        231,
+    ),
+    (
+        b"san 3; atomic x { place p; place q[2];  } system x; reward r on x over 0 9 { rate 1; rate 1; rate 1; rate 1; rate 1; rate 1; rate 1; rate 1; rate 1; rate 1; rate 1; rate 1; rate 1; rate 1; rate 1; rate q[0]; }",
+        b"san 3; atomic x { place p; place q[2];  } system x; reward r on x over 0 9 { rate 1; rate 1; rate 1; rate 1; rate 1; rate 1; rate 1; rate 1; rate 1; rate 1; rate 1; rate 1; rate 1; rate 1; rate 1; rate 1; rate q; }",
+        47,
+        210,
+    ),
+    (
+        b"san 1; atomic x { timed t { delay table 1:1, 1:1, 1:1, 1:1, 1:1, 1:1, 1:1, 1:1, 1:1, 1:1, 1:1, 1:1, 1:1, 1:1, 1:1, 1:1, 1:1, 1:1, 1:1, 1:1, 1:1, 1:1, 1:1, 1:1, 1:1, 1:1, 1:1, 1:1, 1:1, 1:1, 1:1, 1:1, 1:1, 1:1, 1:1, 1:1, 1:1, 1:1, 1:1, 1:1, 1:1, 1:1, 1:1, 1:1, 1:1, 1:1, 1:1, 1:1, 1:1, 1:1, 1:1, 1:1, 1:1, 1:1, 1:1, 1:1, 1:1, 1:1, 1:1, 1:1, 1:1, 1:1, 1:1, 2:1; } } system x;",
+        b"san 1; atomic x { timed t { delay table 1:1, 1:1, 1:1, 1:1, 1:1, 1:1, 1:1, 1:1, 1:1, 1:1, 1:1, 1:1, 1:1, 1:1, 1:1, 1:1, 1:1, 1:1, 1:1, 1:1, 1:1, 1:1, 1:1, 1:1, 1:1, 1:1, 1:1, 1:1, 1:1, 1:1, 1:1, 1:1, 1:1, 1:1, 1:1, 1:1, 1:1, 1:1, 1:1, 1:1, 1:1, 1:1, 1:1, 1:1, 1:1, 1:1, 1:1, 1:1, 1:1, 1:1, 1:1, 1:1, 1:1, 1:1, 1:1, 1:1, 1:1, 1:1, 1:1, 1:1, 1:1, 1:1, 1:1, 1:1, 0:1; } } system x;",
+        34,
+        360,
+    ),
+    (
+        b"san 3; atomic x { place p; } atomic y { place p; } join j { child a = x; child b = y; share s = a.p, b.p; } system j;",
+        b"san 1; atomic x { place p; place q = 1; } join j { child a = x; child b = x; share s = a.p; share t = b.q, a.p; } system j;",
+        28,
+        109,
+    ),
+    (
+        b"san 3; atomic x { place p = 1; } atomic y { place p = 1; } join j { child a = x; child b = y; share s = a.p, b.p; } system j;",
+        b"san 3; atomic x { place p[2] = 1; } atomic y { place p = 2; } join j { child a = x; child b = y; share s = a.p, b.p; } system j;",
+        29,
+        114,
+    ),
+    (
+        b"san 1; atomic x { timed t { delay table 1:4294967295, 2:1; } } system x;",
+        b"san 1; atomic x { timed t { delay table 1:4294967295, 2:2, 0:0; } } system x;",
+        35,
+        56,
+    ),
+    (
+        b"san 1; atomic x { place p = 1; place q; } system x;",
+        b"san 1; atomic x { place p = 2147483648; place p; } system x;",
+        31,
+        28,
+    ),
+    (
+        b"san 1; atomic x { place p; instant t { in p 1; } } system x;",
+        b"san 1; atomic x { place p; instant t { in q 0; } } system x;",
+        21,
+        42,
+    ),
+    (
+        b"san 1; atomic x { } join j { child a = x; child b = x; } system j;",
+        b"san 1; atomic x { } join j { child a = y; child a = y; } system j;",
+        22,
+        39,
+    ),
+    (
+        b"san 1; atomic x { place p; place q; } rep r = x times 1 { share p; } system r;",
+        b"san 1; atomic x { place p; place q; } rep r = x times 1 { share o; share o; } system r;",
+        30,
+        64,
+    ),
+    (
+        b"san 1; atomic x { } rep r = x times 1 { } system r;",
+        b"san 1; atomic x { } rep r = x times 0 { share o; } system r;",
+        37,
+        36,
+    ),
+];
+
+/// A text of many parts: what stands before them, before and behind the name of each, and behind
+/// them, how many there may be, the code of one part more, and the place of its name.
+const LIMITS: [(&[u8], &[u8], &[u8], &[u8], u32, u32, u32); 8] = [
+    (
+        b"san 1; atomic x { ",
+        b"instant ",
+        b" { } ",
+        b"} system x;",
+        256,
+        41,
+        4268,
+    ),
+    (
+        b"san 1; atomic x { ",
+        b"timed ",
+        b" { delay det 1; } ",
+        b"} system x;",
+        256,
+        41,
+        7082,
+    ),
+    (
+        b"san 1; ",
+        b"atomic ",
+        b" { } ",
+        b"system a0;",
+        256,
+        42,
+        4000,
+    ),
+    (
+        b"san 1; atomic x { } ",
+        b"rep ",
+        b" = x times 1 { } ",
+        b"system x;",
+        255,
+        42,
+        6289,
+    ),
+    (
+        b"san 1; atomic x { } join j { ",
+        b"child ",
+        b" = x; ",
+        b"} system j;",
+        1024,
+        43,
+        16333,
+    ),
+    (
+        b"san 1; join i { } join j { ",
+        b"child ",
+        b" = i; ",
+        b"} system j;",
+        1024,
+        43,
+        16331,
+    ),
+    (
+        b"san 1; atomic x { } system x; ",
+        b"reward ",
+        b" on x at 1 { } ",
+        b"",
+        64,
+        45,
+        1627,
+    ),
+    (
+        b"san 1; atomic x { } system x; ",
+        b"reward ",
+        b" on x over 0 1 { rate 1; } ",
+        b"",
+        64,
+        45,
+        2395,
+    ),
+];
+
+/// The code of the first fault of a text and the place of its word, or zeros where there is none.
+fn fault(alloc: Global, text: &[u8]) -> (u32, u32)
+    requires { length text.now ≤ 67108864 }
+{
+    match parse(alloc, text) {
+        Ok(parsed) => match first_fault(alloc, &parsed.syntax) {
+            Ok(Some(fault)) => match parsed.spots.as_slice().get(fault.word as usize) {
+                Some(place) => (fault.code, *place),
+                None => (fault.code, 0),
+            },
+            Ok(None) => (0, 0),
+            Err(_) => (1, 0),
+        },
+        Err(_) => (2, 0),
+    }
+}
+
+#[test]
+fn refuses_names(rt: HostRuntime) {
+    for (row, (accepted, refused, code, place)) in NAMES.iter().enumerate() {
+        assert!(rt; accepted.len() < 2000 && refused.len() < 2000);
+        assert_eq!(rt; fault(rt.alloc(), accepted), (0, 0), "row {row}");
+        assert_eq!(rt; fault(rt.alloc(), refused), (*code, *place), "row {row}");
+    }
+}
+
+#[test]
+fn refuses_shares(rt: HostRuntime) {
+    for (row, (accepted, refused, code, place)) in SHARES.iter().enumerate() {
+        assert!(rt; accepted.len() < 2000 && refused.len() < 2000);
+        assert_eq!(rt; fault(rt.alloc(), accepted), (0, 0), "row {row}");
+        assert_eq!(rt; fault(rt.alloc(), refused), (*code, *place), "row {row}");
+    }
+}
+
+#[test]
+fn refuses_numbers(rt: HostRuntime) {
+    for (row, (accepted, refused, code, place)) in NUMBERS.iter().enumerate() {
+        assert!(rt; accepted.len() < 2000 && refused.len() < 2000);
+        assert_eq!(rt; fault(rt.alloc(), accepted), (0, 0), "row {row}");
+        assert_eq!(rt; fault(rt.alloc(), refused), (*code, *place), "row {row}");
+    }
+}
+
+#[test]
+fn refuses_counts(rt: HostRuntime) {
+    for (row, (accepted, refused, code, place)) in COUNTS.iter().enumerate() {
+        assert!(rt; accepted.len() < 2000 && refused.len() < 2000);
+        assert_eq!(rt; fault(rt.alloc(), accepted), (0, 0), "row {row}");
+        assert_eq!(rt; fault(rt.alloc(), refused), (*code, *place), "row {row}");
+    }
+}
+
+#[test]
+fn refuses_the_first_word_by_the_least_code(rt: HostRuntime) {
+    for (row, (accepted, refused, code, place)) in TWO.iter().enumerate() {
+        assert!(rt; accepted.len() < 2000 && refused.len() < 2000);
+        assert_eq!(rt; fault(rt.alloc(), accepted), (0, 0), "row {row}");
+        assert_eq!(rt; fault(rt.alloc(), refused), (*code, *place), "row {row}");
+    }
+}
+
+/// A text with so many parts, named a0, a1 and so on.
+fn text_of(
+    alloc: Global,
+    head: &[u8],
+    before: &[u8],
+    behind: &[u8],
+    count: u32,
+    tail: &[u8],
+) -> Result<Vec<u8>, Fail> {
+    let mut text = Vec::new(alloc);
+    text.extend_from_slice(head)?;
+    for part in 0..count {
+        text.extend_from_slice(before)?;
+        text.extend_from_slice(format!(in alloc; "a{part}")?.as_bytes())?;
+        text.extend_from_slice(behind)?;
+    }
+    text.extend_from_slice(tail)?;
+    Ok(text)
+}
+
+#[test]
+fn counts_the_parts(rt: HostRuntime) -> Result<(), Fail> {
+    for (row, (head, before, behind, tail, most, code, place)) in LIMITS.iter().enumerate() {
+        assert!(rt; *most < 2000);
+        let accepted = text_of(rt.alloc(), head, before, behind, *most, tail)?;
+        assert!(rt; accepted.len() < 100000);
+        assert_eq!(rt; fault(rt.alloc(), &accepted), (0, 0), "row {row}");
+        let refused = text_of(rt.alloc(), head, before, behind, *most + 1, tail)?;
+        assert!(rt; refused.len() < 100000);
+        assert_eq!(rt; fault(rt.alloc(), &refused), (*code, *place), "row {row}");
+    }
+    Ok(())
+}
+
+/// A join of five children with 256 places each, which has so many shares of one place each.
+fn shares_of(alloc: Global, shares: u32) -> Result<Vec<u8>, Fail> {
+    let mut text = Vec::new(alloc);
+    text.extend_from_slice(b"san 1; atomic x { ")?;
+    for place in 0..256 {
+        text.extend_from_slice(format!(in alloc; "place p{place}; ")?.as_bytes())?;
+    }
+    text.extend_from_slice(b"} join j { ")?;
+    for child in 0..5 {
+        text.extend_from_slice(format!(in alloc; "child c{child} = x; ")?.as_bytes())?;
+    }
+    for share in 0..shares {
+        let child = share / 256;
+        let place = share % 256;
+        text.extend_from_slice(format!(in alloc;
+            "share s{share} = c{child}.p{place}; "
+        )?.as_bytes())?;
+    }
+    text.extend_from_slice(b"} system j;")?;
+    Ok(text)
+}
+
+#[test]
+fn counts_the_shares(rt: HostRuntime) -> Result<(), Fail> {
+    let accepted = shares_of(rt.alloc(), 1024)?;
+    assert!(rt; accepted.len() < 100000);
+    assert_eq!(rt; fault(rt.alloc(), &accepted), (0, 0));
+    let refused = shares_of(rt.alloc(), 1025)?;
+    assert!(rt; refused.len() < 100000);
+    assert_eq!(rt; fault(rt.alloc(), &refused), (44, 25069));
+    let refused = shares_of(rt.alloc(), 1026)?;
+    assert!(rt; refused.len() < 100000);
+    assert_eq!(rt; fault(rt.alloc(), &refused), (44, 25069));
+    Ok(())
+}
+
+/// The tree of three models: an atomic, two copies of it, and a join of both.
+#[test]
+fn makes_the_tree(rt: HostRuntime) -> Result<(), Fail> {
+    let text =
+        b"san 1; atomic x { place p; place q; } rep r = x times 2 { share q; } join j { child a = x; child b = r; share s = b.q, a.p; } system j;";
+    let parsed = parse(rt.alloc(), text).expect(&rt, "parse");
+    let tree = tree_of(rt.alloc(), &parsed.syntax).expect(&rt, "tree");
+    assert_eq!(rt; tree.root, 2);
+    assert_eq!(rt; tree.leaves(), 3);
+    assert_eq!(rt; tree.home(&[0], 0), Home { depth: 0, place: 0 });
+    assert_eq!(rt; tree.home(&[0], 1), Home { depth: 1, place: 1 });
+    assert_eq!(rt; tree.home(&[1, 1], 1), Home { depth: 0, place: 0 });
+    assert_eq!(rt; tree.home(&[1, 0], 0), Home { depth: 2, place: 0 });
+    Ok(())
+}
+
+#[test]
+fn faults_show_their_names(rt: HostRuntime) -> Result<(), Fail> {
+    let rows = [
+        (CheckFault::Refused { code: 20, word: 1 }, "Refused"),
+        (CheckFault::NoMemory, "NoMemory"),
+    ];
+    for (fault, shown) in rows {
+        assert_eq!(rt; format!(in rt.alloc(); "{fault}")?.as_str(), shown);
+    }
+    Ok(())
+}
