@@ -9,13 +9,3 @@ pub mod OnceLemmas
 pub mod ListedLemmas
 pub mod KeepsLemmas
 pub mod WordLemmas
-pub mod FitLemmas
-pub mod BodyLemmas
-pub mod PlacedLemmas
-pub mod ActLemmas
-pub mod DelayLemmas
-pub mod KindLemmas
-pub mod TermLemmas
-pub mod RewardLemmas
-pub mod AcceptedLemmas
-pub mod ModelLemmas

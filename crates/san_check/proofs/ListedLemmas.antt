@@ -25,7 +25,7 @@ use Rattle.san_check.proofs.FreeLemmas.{Free, free_left, free_right, code_free, 
 use Rattle.san_check.proofs.TreeLemmas.{grows, shares_free, shown_free}
 use Rattle.san_check.proofs.NumberLemmas.{number_is}
 
-pub nothing_behind : {A : Type 0} (xs : List A) → xs ++ [] ≡ xs
+nothing_behind : {A : Type 0} (xs : List A) → xs ++ [] ≡ xs
 nothing_behind [] = refl
 nothing_behind (x ∷ xs) = ap (λ ys. x ∷ ys) (nothing_behind xs)
 
@@ -117,20 +117,20 @@ shown_grow : (places t : Places) (ss : List (List ℕ)) → length (all_shown pl
 shown_grow places t [] = omega arith
 shown_grow places t (s ∷ ss) = let one = (grows t s (shown_as (found places s))).2 in let more = shown_grow places (with_shown places t s) ss in omega (arith, one, more)
 
-pub or_left : (a b : Bool) → (a || b) ≡ false → a ≡ false
+or_left : (a b : Bool) → (a || b) ≡ false → a ≡ false
 or_left true b h = h
 or_left false b h = refl
 
-pub or_right : (a b : Bool) → (a || b) ≡ false → b ≡ false
+or_right : (a b : Bool) → (a || b) ≡ false → b ≡ false
 or_right true b h = absurd (true≢false h)
 or_right false b h = h
 
-pub positive : (l : ℕ) → nat_eq l 0 ≡ false → 0 < l
+positive : (l : ℕ) → nat_eq l 0 ≡ false → 0 < l
 positive zero h = absurd (true≢false h)
 positive (suc l) h = omega arith
 
 -- a place takes a cell at least
-pub cell_free : (cells : ℕ) (l : Option ℕ) → code 40 (is_none l && nat_lt 256 (counted cells 1)) ≡ None → Free (length_entries cells l) → cells ≤ 256 → (suc cells ≤ counted cells (unwrap_or l 1)) × (counted cells (unwrap_or l 1) ≤ 256)
+cell_free : (cells : ℕ) (l : Option ℕ) → code 40 (is_none l && nat_lt 256 (counted cells 1)) ≡ None → Free (length_entries cells l) → cells ≤ 256 → (suc cells ≤ counted cells (unwrap_or l 1)) × (counted cells (unwrap_or l 1) ≤ 256)
 unfolding length_entries
 cell_free cells None h k few = let fits = ltb-false 256 (counted cells 1) (code_free 40 (nat_lt 256 (counted cells 1)) h) in (omega (arith, fits), fits)
 cell_free cells (Some l) h k few =
