@@ -17,4 +17,6 @@ mod grammar;
 #[cfg(test)]
 mod network;
 #[cfg(test)]
+mod rewards;
+#[cfg(test)]
 mod winners;

@@ -125,7 +125,7 @@ fn get_part(alloc: Global) -> Result<Part, NoMemory>
     })
 }
 
-fn put_and_get(alloc: Global) -> Result<Flat, NoMemory>
+pub(crate) fn put_and_get(alloc: Global) -> Result<Flat, NoMemory>
     ensures { IfOk result (λ flat. flat ≡ put_and_get) }
 {
     let mut parts = Vec::new(alloc);

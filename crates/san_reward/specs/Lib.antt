@@ -1,0 +1,5 @@
+pub mod Rated
+pub mod Present
+pub mod Running
+pub mod Worth
+pub mod Examples

@@ -1,0 +1,100 @@
+-- What a tally knows and has counted.
+use Rattle.std.specs.Prelude.{ℕ, ◌+◌, ◌*◌, ◌^◌, ◌≤◌, ◌<◌, ◌≡◌, All, List, [], map, replicate, length, slice_index_or, slice_set}
+use Rattle.san_law.specs.Net.{Net, Rated, Span, Nothing, Fresh}
+use Rattle.san_law.specs.Reward.{plus, span_of, zero_sum}
+use Rattle.san_law.specs.Tally.{Tally, sum_of, tally_after}
+use Rattle.san_base.specs.declared.ending.Trap.TheVariants.{Arith}
+use Rattle.std.specs.Prelude.{Err, false}
+use Rattle.san_net.specs.Network.{Network, span_in}
+use Rattle.san_net.specs.declared.part.Part.{Part}
+use Rattle.san_net.specs.declared.part.Span as reward
+use Rattle.san_reward.specs.Present.{IsAtMost, counted_at, present_at, present_of, terms_of}
+use Rattle.san_reward.specs.declared.present.Present.{Present}
+
+-- the horizon, the present time, the rewards' intervals, the rewards of each leaf's rate terms, and what was counted
+pub record Running : Type 0 where
+  pub horizon : ℕ
+  pub time : ℕ
+  pub spans : List Span
+  pub terms : List (List ℕ)
+  pub tally : Tally
+
+abbrev pub running_of : ℕ → ℕ → ℕ → List reward.Span → List (List ℕ) → List (List Rated) → List Rated → Running
+running_of horizon time impulses spans terms rates sums = record { horizon = horizon; time = time; spans = map span_in spans; terms = terms; tally = record { rates = rates; sums = sums; impulses = impulses } }
+
+-- all that a tally asks of its network: intervals, terms and horizon; nothing else of it matters
+abbrev pub net_in : Running → Net
+net_in t = record {
+  parts = [];
+  acts = λ j. 0;
+  shared = 0;
+  initial = [];
+  first = λ j v. Nothing;
+  done = λ j k l. Err Arith;
+  renewed = λ j time seen l. Fresh l.row;
+  paired = λ j. false;
+  rates = λ j v. [];
+  terms = λ j. slice_index_or t.terms j [];
+  spans = t.spans;
+  horizon = t.horizon;
+  burst = 0;
+  limit = 0;
+}
+
+-- a network whose rewards a tally counts
+pub record IsOf (net : Net) (t : Running) : Type 0 where
+  pub spans : net.spans ≡ t.spans
+  pub terms : (j : ℕ) → net.terms j ≡ slice_index_or t.terms j []
+  pub horizon : net.horizon ≡ t.horizon
+
+abbrev pub terms_in : Part → List ℕ
+terms_in p = map (λ t. t.reward) p.atomic.rates
+
+abbrev pub no_rates : Part → List Rated
+no_rates p = replicate (length p.atomic.rates) zero_sum
+
+-- at time 0, where each rate is 0 and nothing was counted
+abbrev pub opened : Network → ℕ → Running
+opened n horizon = record {
+  horizon = horizon;
+  time = 0;
+  spans = map (λ r. span_in r.span) n.rewards;
+  terms = map terms_in n.parts;
+  tally = record { rates = map no_rates n.parts; sums = replicate (length n.rewards) zero_sum; impulses = 0 };
+}
+
+-- the present rates counted for the ticks before a time
+abbrev pub advanced : Running → ℕ → Running
+advanced t to = record t { time = to; tally = tally_after (net_in t) t.tally t.time to [] }
+
+-- a leaf's rates, one of them set
+abbrev pub rates_with : List (List Rated) → ℕ → ℕ → Rated → List (List Rated)
+rates_with rates j k w = slice_set rates j (slice_set (slice_index_or rates j []) k w)
+
+abbrev pub with_rate : Running → ℕ → ℕ → Rated → Running
+with_rate t j k w = record t { tally = record { rates = rates_with t.tally.rates j k w; sums = t.tally.sums; impulses = t.tally.impulses } }
+
+-- an impulse at the present time, counted where its reward's interval has this time
+abbrev pub with_impulse : Running → ℕ → Rated → Running
+with_impulse t r w = record t {
+  tally = record {
+    rates = t.tally.rates;
+    sums = slice_set t.tally.sums r (plus (sum_of t.tally r) (counted_at (span_of (net_in t) r) t.time w));
+    impulses = t.tally.impulses + 1;
+  };
+}
+
+-- what is kept of a tally: the sums of each reward's present rates are at hand, and all sums are small
+pub record IsCounted (t : Running) (present : List Present) : Type 0 where
+  pub horizon : t.horizon ≤ 1000000000000
+  pub time : t.time ≤ t.horizon
+  pub impulses : t.tally.impulses ≤ 2 ^ 40
+  pub sums : length t.tally.sums ≡ length t.spans
+  pub sized : length present ≡ length t.spans
+  pub each : (r : ℕ) → r < length t.spans → present_at present r ≡ present_of r t.terms t.tally.rates
+  pub small : (r : ℕ) → IsAtMost (t.time * 2 ^ 79 + t.tally.impulses * 2 ^ 63) (sum_of t.tally r)
+  pub spanned : All (λ s. s.to ≤ 1000000000001) t.spans
+  pub few : (r : ℕ) → terms_of r t.terms ≤ 65536
+  pub known : All (All (λ q. q < length t.spans)) t.terms
+  pub shaped : map length t.tally.rates ≡ map length t.terms
+  pub bounded : All (All (IsAtMost (2 ^ 63))) t.tally.rates

@@ -1,0 +1,23 @@
+ghost use Rattle.std.specs.Prelude.{◌≡◌, [], ℕ};
+ghost use Rattle.san_law.specs.Net.{Net};
+ghost use Rattle.san_law.specs.Network.{Limits};
+ghost use Rattle.san_law.specs.Tally.{tally_after, tally_worth};
+ghost use Rattle.san_net.specs.Network.{Network, net_of};
+ghost use Rattle.san_reward.specs.Running.{IsOf, Running, advanced, net_in, opened};
+
+/// A tally that is opened on a network counts this network's rewards, whatever the draws.
+#[tactic(auto, using(crate::proofs::Telling::opened_of))]
+pub fn an_opened_tally_is_of_its_network()
+    ensures { (n : Network) (draw : ℕ → ℕ → ℕ) (limits : Limits)
+        → IsOf (net_of n draw limits) (opened n limits.horizon) }
+{}
+
+/// What a tally counts as time goes on, and what its rewards are worth, is what the law says of the
+/// network.
+#[tactic(auto, using(crate::proofs::Telling::advance_same, crate::proofs::Telling::worth_same))]
+pub fn a_tally_counts_its_networks_rewards()
+    ensures advance { (net : Net) (t : Running) → IsOf net t → (to : ℕ)
+        → tally_after net t.tally t.time to [] ≡ (advanced t to).tally }
+    ensures worth { (net : Net) (t : Running) → IsOf net t → (r : ℕ)
+        → tally_worth net t.tally t.time r ≡ tally_worth (net_in t) t.tally t.time r }
+{}

@@ -1,0 +1,21 @@
+//! The running sums of a run's rewards: rates for whole stretches of ticks, impulses at the present
+//! time, and what each reward is worth at the end.
+#![tactic(auto)]
+
+mod bounds;
+mod copying;
+mod laws;
+mod leaves;
+mod present;
+mod rows;
+mod tally;
+mod term;
+mod worth;
+mod zeros;
+
+pub use bounds::rated;
+pub use laws::{a_tally_counts_its_networks_rewards, an_opened_tally_is_of_its_network};
+pub use rows::{a_fault_in_a_reward, three_rewards};
+pub use tally::Tally;
+pub use term::Rated;
+pub use worth::Worth;
