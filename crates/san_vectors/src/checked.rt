@@ -3,11 +3,9 @@
 
 ghost use Rattle.std.specs.Prelude.{◌≤◌, length};
 
-use san_check::{CheckFault, first_fault, tree_of};
+use san_check::first_fault;
 use san_text::parse;
-use san_tree::Home;
 use std::alloc::Global;
-use std::test::Fail;
 
 /// A text that no check refuses, the text beside it that one does, the code, and the place.
 type Row = (&'static [u8], &'static [u8], u32, u32);
@@ -662,85 +660,8 @@ const TWO: [Row; 14] = [
     ),
 ];
 
-/// A text of many parts: what stands before them, before and behind the name of each, and behind
-/// them, how many there may be, the code of one part more, and the place of its name.
-const LIMITS: [(&[u8], &[u8], &[u8], &[u8], u32, u32, u32); 8] = [
-    (
-        b"san 1; atomic x { ",
-        b"instant ",
-        b" { } ",
-        b"} system x;",
-        256,
-        41,
-        4268,
-    ),
-    (
-        b"san 1; atomic x { ",
-        b"timed ",
-        b" { delay det 1; } ",
-        b"} system x;",
-        256,
-        41,
-        7082,
-    ),
-    (
-        b"san 1; ",
-        b"atomic ",
-        b" { } ",
-        b"system a0;",
-        256,
-        42,
-        4000,
-    ),
-    (
-        b"san 1; atomic x { } ",
-        b"rep ",
-        b" = x times 1 { } ",
-        b"system x;",
-        255,
-        42,
-        6289,
-    ),
-    (
-        b"san 1; atomic x { } join j { ",
-        b"child ",
-        b" = x; ",
-        b"} system j;",
-        1024,
-        43,
-        16333,
-    ),
-    (
-        b"san 1; join i { } join j { ",
-        b"child ",
-        b" = i; ",
-        b"} system j;",
-        1024,
-        43,
-        16331,
-    ),
-    (
-        b"san 1; atomic x { } system x; ",
-        b"reward ",
-        b" on x at 1 { } ",
-        b"",
-        64,
-        45,
-        1627,
-    ),
-    (
-        b"san 1; atomic x { } system x; ",
-        b"reward ",
-        b" on x over 0 1 { rate 1; } ",
-        b"",
-        64,
-        45,
-        2395,
-    ),
-];
-
 /// The code of the first fault of a text and the place of its word, or zeros where there is none.
-fn fault(alloc: Global, text: &[u8]) -> (u32, u32)
+pub(crate) fn fault(alloc: Global, text: &[u8]) -> (u32, u32)
     requires { length text.now ≤ 67108864 }
 {
     match parse(alloc, text) {
@@ -799,102 +720,4 @@ fn refuses_the_first_word_by_the_least_code(rt: HostRuntime) {
         assert_eq!(rt; fault(rt.alloc(), accepted), (0, 0), "row {row}");
         assert_eq!(rt; fault(rt.alloc(), refused), (*code, *place), "row {row}");
     }
-}
-
-/// A text with so many parts, named a0, a1 and so on.
-fn text_of(
-    alloc: Global,
-    head: &[u8],
-    before: &[u8],
-    behind: &[u8],
-    count: u32,
-    tail: &[u8],
-) -> Result<Vec<u8>, Fail> {
-    let mut text = Vec::new(alloc);
-    text.extend_from_slice(head)?;
-    for part in 0..count {
-        text.extend_from_slice(before)?;
-        text.extend_from_slice(format!(in alloc; "a{part}")?.as_bytes())?;
-        text.extend_from_slice(behind)?;
-    }
-    text.extend_from_slice(tail)?;
-    Ok(text)
-}
-
-#[test]
-fn counts_the_parts(rt: HostRuntime) -> Result<(), Fail> {
-    for (row, (head, before, behind, tail, most, code, place)) in LIMITS.iter().enumerate() {
-        assert!(rt; *most < 2000);
-        let accepted = text_of(rt.alloc(), head, before, behind, *most, tail)?;
-        assert!(rt; accepted.len() < 100000);
-        assert_eq!(rt; fault(rt.alloc(), &accepted), (0, 0), "row {row}");
-        let refused = text_of(rt.alloc(), head, before, behind, *most + 1, tail)?;
-        assert!(rt; refused.len() < 100000);
-        assert_eq!(rt; fault(rt.alloc(), &refused), (*code, *place), "row {row}");
-    }
-    Ok(())
-}
-
-/// A join of five children with 256 places each, which has so many shares of one place each.
-fn shares_of(alloc: Global, shares: u32) -> Result<Vec<u8>, Fail> {
-    let mut text = Vec::new(alloc);
-    text.extend_from_slice(b"san 1; atomic x { ")?;
-    for place in 0..256 {
-        text.extend_from_slice(format!(in alloc; "place p{place}; ")?.as_bytes())?;
-    }
-    text.extend_from_slice(b"} join j { ")?;
-    for child in 0..5 {
-        text.extend_from_slice(format!(in alloc; "child c{child} = x; ")?.as_bytes())?;
-    }
-    for share in 0..shares {
-        let child = share / 256;
-        let place = share % 256;
-        text.extend_from_slice(format!(in alloc;
-            "share s{share} = c{child}.p{place}; "
-        )?.as_bytes())?;
-    }
-    text.extend_from_slice(b"} system j;")?;
-    Ok(text)
-}
-
-#[test]
-fn counts_the_shares(rt: HostRuntime) -> Result<(), Fail> {
-    let accepted = shares_of(rt.alloc(), 1024)?;
-    assert!(rt; accepted.len() < 100000);
-    assert_eq!(rt; fault(rt.alloc(), &accepted), (0, 0));
-    let refused = shares_of(rt.alloc(), 1025)?;
-    assert!(rt; refused.len() < 100000);
-    assert_eq!(rt; fault(rt.alloc(), &refused), (44, 25069));
-    let refused = shares_of(rt.alloc(), 1026)?;
-    assert!(rt; refused.len() < 100000);
-    assert_eq!(rt; fault(rt.alloc(), &refused), (44, 25069));
-    Ok(())
-}
-
-/// The tree of three models: an atomic, two copies of it, and a join of both.
-#[test]
-fn makes_the_tree(rt: HostRuntime) -> Result<(), Fail> {
-    let text =
-        b"san 1; atomic x { place p; place q; } rep r = x times 2 { share q; } join j { child a = x; child b = r; share s = b.q, a.p; } system j;";
-    let parsed = parse(rt.alloc(), text).expect(&rt, "parse");
-    let tree = tree_of(rt.alloc(), &parsed.syntax).expect(&rt, "tree");
-    assert_eq!(rt; tree.root, 2);
-    assert_eq!(rt; tree.leaves(), 3);
-    assert_eq!(rt; tree.home(&[0], 0), Home { depth: 0, place: 0 });
-    assert_eq!(rt; tree.home(&[0], 1), Home { depth: 1, place: 1 });
-    assert_eq!(rt; tree.home(&[1, 1], 1), Home { depth: 0, place: 0 });
-    assert_eq!(rt; tree.home(&[1, 0], 0), Home { depth: 2, place: 0 });
-    Ok(())
-}
-
-#[test]
-fn faults_show_their_names(rt: HostRuntime) -> Result<(), Fail> {
-    let rows = [
-        (CheckFault::Refused { code: 20, word: 1 }, "Refused"),
-        (CheckFault::NoMemory, "NoMemory"),
-    ];
-    for (fault, shown) in rows {
-        assert_eq!(rt; format!(in rt.alloc(); "{fault}")?.as_str(), shown);
-    }
-    Ok(())
 }

@@ -9,6 +9,8 @@ mod canonical;
 #[cfg(test)]
 mod checked;
 #[cfg(test)]
+mod checked_limits;
+#[cfg(test)]
 mod draws;
 #[cfg(test)]
 mod first_form;
