@@ -3,7 +3,7 @@ use Rattle.std.proofs.Common.{ℕ, ◌+◌, ◌≡◌, ◌∙◌, ap, sym, List,
 use Rattle.san_base.specs.declared.ending.Event.{Event}
 use Rattle.san_base.specs.declared.ending.Ending.{Ending}
 use Rattle.san_base.specs.declared.plain.Plain.{Plain}
-use Rattle.san_seq.specs.declared.run.Trajectory.{Trajectory}
+use Rattle.san_seq.specs.declared.steps.Trajectory.{Trajectory}
 use Rattle.san_cmd.specs.Report.{event_line, event_lines, ending_line, report_from}
 use Rattle.san_cmd.specs.Sent.{Sent}
 use Rattle.san_seq.proofs.StepLemmas.{after}

@@ -6,7 +6,7 @@ use Rattle.san_base.specs.declared.ending.Ending.TheVariants as ending
 use Rattle.san_base.specs.declared.plain.Plain.{Plain}
 use Rattle.san_base.specs.declared.status.Status.{Status}
 use Rattle.san_base.specs.declared.status.Status.TheVariants as status
-use Rattle.san_seq.specs.declared.run.Trajectory.{Trajectory}
+use Rattle.san_seq.specs.declared.steps.Trajectory.{Trajectory}
 use Rattle.san_text.specs.First.{first_form}
 use Rattle.san_cmd.specs.Report.{report_of, trajectory_of}
 use Rattle.san_cmd.specs.declared.words.Orders.{Orders}

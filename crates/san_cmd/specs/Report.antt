@@ -9,7 +9,7 @@ use Rattle.san_base.specs.declared.ending.Stop.TheVariants as stop
 use Rattle.san_base.specs.declared.ending.Trap.{Trap}
 use Rattle.san_base.specs.declared.ending.Trap.TheVariants as trap
 use Rattle.san_base.specs.declared.plain.Plain.{Plain}
-use Rattle.san_seq.specs.declared.run.Trajectory.{Trajectory}
+use Rattle.san_seq.specs.declared.steps.Trajectory.{Trajectory}
 use Rattle.san_seq.specs.Run.{opening, trajectory}
 use Rattle.san_cmd.specs.Words.{limits_to}
 

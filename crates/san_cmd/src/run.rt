@@ -11,7 +11,7 @@ ghost use Rattle.san_cmd.specs.Words.{orders_of, limits_to};
 use crate::report::{LINE, put_ending, put_event};
 use crate::words::{Orders, limits_to, orders_of};
 use san_base::{Ending, Limits, Plain, Sink, Source, Status, SureSink, Taking, put_all, take_all};
-use san_seq::{Seq, Stepped};
+use san_seq::{PlainRun, Stepped};
 use san_text::{FirstFault, parse_first};
 use std::alloc::Global;
 
@@ -77,7 +77,7 @@ fn run<K: Sink>(alloc: Global, plain: &Plain, limits: Limits, sink: &mut K) -> S
     let Ok(mut page) = SureSink::new(alloc, PAGE) else {
         return Status::NoMemory;
     };
-    let mut seq = Seq::open(plain, limits);
+    let mut seq = PlainRun::open(plain, limits);
     let mut n: u64 = 0;
     'steps: loop {
         if !make_room(&mut page, sink) {

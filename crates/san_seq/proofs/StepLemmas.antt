@@ -5,9 +5,9 @@ use Rattle.san_base.specs.declared.ending.Event.{Event}
 use Rattle.san_base.specs.declared.ending.Ending.{Ending}
 use Rattle.san_base.specs.declared.ending.Ending.TheVariants as ending
 use Rattle.san_base.specs.declared.ending.Stop.{Stop}
-use Rattle.san_seq.specs.declared.run.Stepped.{Stepped}
-use Rattle.san_seq.specs.declared.run.Stepped.TheVariants as stepped
-use Rattle.san_seq.specs.declared.run.Trajectory.{Trajectory}
+use Rattle.san_seq.specs.declared.steps.Stepped.{Stepped}
+use Rattle.san_seq.specs.declared.steps.Stepped.TheVariants as stepped
+use Rattle.san_seq.specs.declared.steps.Trajectory.{Trajectory}
 use Rattle.san_seq.specs.Run.{Net, Run, completed, completed_at, followed, happened_at, is_enabled, over_at, run, step, step_where, stepped_of, trajectory, complete}
 
 -- arcs that take a token and put it back leave an enabled activity's place as it was

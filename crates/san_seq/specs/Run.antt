@@ -5,9 +5,9 @@ use Rattle.san_base.specs.declared.ending.Ending.TheVariants as ending
 use Rattle.san_base.specs.declared.ending.Stop.TheVariants as stop
 use Rattle.san_base.specs.declared.limits.Limits.{Limits}
 use Rattle.san_base.specs.declared.plain.Plain.{Plain}
-use Rattle.san_seq.specs.declared.run.Stepped.{Stepped}
-use Rattle.san_seq.specs.declared.run.Stepped.TheVariants as stepped
-use Rattle.san_seq.specs.declared.run.Trajectory.{Trajectory}
+use Rattle.san_seq.specs.declared.steps.Stepped.{Stepped}
+use Rattle.san_seq.specs.declared.steps.Stepped.TheVariants as stepped
+use Rattle.san_seq.specs.declared.steps.Trajectory.{Trajectory}
 
 -- what a run is of: the place's initial value, the activity's delay, the horizon and the event limit
 pub record Net : Type 0 where

@@ -3,31 +3,14 @@ ghost use Rattle.san_base.specs.Limits.{IsInRange};
 ghost use Rattle.san_base.specs.Plain.{IsPlain};
 ghost use Rattle.san_seq.specs.Run.{activated, completed_at, is_enabled, opening, renewed, step, stepped_of, trajectory};
 
+use crate::steps::{Stepped, Trajectory};
 use san_base::{ActId, Ending, Event, Items, Limits, NoMemory, Plain, Stop, Tick};
 use std::alloc::Global;
 use std::marker::Model;
 
-/// What one step of a run came to.
-#[derive(Clone, Copy, Debug, PartialEq, Eq)]
-pub enum Stepped {
-    /// A completion.
-    Event(Event),
-    /// The run is over at its horizon.
-    End,
-    /// The run stopped before its horizon.
-    Stopped(Stop),
-}
-
-/// All the completions of a run in order, and how it ended.
-#[derive(Debug, Drop)]
-pub struct Trajectory {
-    pub events: Items<Event>,
-    pub ending: Ending,
-}
-
-/// A run of a model, one step after another. It keeps its own state and takes no memory.
+/// A run of a model of the first form, one step after another. It keeps its own state and takes no memory.
 #[derive(Drop)]
-pub struct Seq<'a> {
+pub struct PlainRun<'a> {
     plain: &'a Plain,
     limits: Limits,
     time: u64,
@@ -37,7 +20,7 @@ pub struct Seq<'a> {
     over: Option<Ending>,
 }
 
-impl<'a> Model for Seq<'a> {
+impl<'a> Model for PlainRun<'a> {
     ghost use Rattle.std.specs.Prelude.{◌≡◌, ◌≤◌, slice_index};
     ghost use Rattle.san_base.specs.Limits.{IsInRange};
     ghost use Rattle.san_base.specs.Plain.{IsPlain};
@@ -89,14 +72,14 @@ fn stepped_of(ending: Ending) -> Stepped
     }
 }
 
-impl<'a> Seq<'a> {
+impl<'a> PlainRun<'a> {
     /// A run that hasn't begun, over a model and under limits.
-    pub fn open(plain: &'a Plain, limits: Limits) -> Seq<'a>
+    pub fn open(plain: &'a Plain, limits: Limits) -> PlainRun<'a>
         requires plain { IsPlain plain.now }
         requires limits { IsInRange limits }
         ensures { result ≡ opening plain.now limits }
     {
-        Seq {
+        PlainRun {
             plain,
             limits,
             time: 0,

@@ -5,7 +5,7 @@ use san_base::{
     SureSource, Tick, take_all,
 };
 use san_cmd::run_words;
-use san_seq::Seq;
+use san_seq::PlainRun;
 use san_text::parse_first;
 use std::alloc::Global;
 use std::test::Fail;
@@ -183,7 +183,7 @@ fn trajectories(rt: HostRuntime) -> Result<(), Fail> {
     let plain = parse_first(rt.alloc(), TICK.as_bytes())
         .ok()
         .ok_or("no model")?;
-    let seq = Seq::open(&plain, LIMITS);
+    let seq = PlainRun::open(&plain, LIMITS);
     assert_eq!(rt; seq.marking(), [1].as_slice());
     let trajectory = seq.run_all(rt.alloc())?;
     let events = [3, 6, 9].map(|time| Event {

@@ -21,4 +21,6 @@ mod network;
 #[cfg(test)]
 mod rewards;
 #[cfg(test)]
+mod sequential;
+#[cfg(test)]
 mod winners;

@@ -1,8 +1,8 @@
 use Rattle.std.proofs.Common.{ℕ, ◌+◌, ◌∷◌, [], length, length-append, ◌≡◌, ◌∙◌, ◌<◌, ◌-◌, sym, ap, subst, arith, rules}
 use Rattle.san_seq.specs.Run.{Net, Run, opening, step, trajectory}
-use Rattle.san_seq.specs.declared.run.Trajectory.{Trajectory}
+use Rattle.san_seq.specs.declared.steps.Trajectory.{Trajectory}
 use Rattle.san_base.specs.declared.ending.Ending.TheVariants as ending
-use Rattle.san_seq.specs.declared.run.Stepped.TheVariants as stepped
+use Rattle.san_seq.specs.declared.steps.Stepped.TheVariants as stepped
 use Rattle.san_cmd.specs.Answers.{EndsAtHorizon, Stops}
 use Rattle.san_seq.proofs.StepLemmas.{counted, trajectory_more, trajectory_end, trajectory_stopped, after}
 use Rattle.san_cmd.proofs.ReportLemmas.{report_from_event, sent_ending, ends_as}

@@ -1,0 +1,78 @@
+-- A completion in a state.
+use Rattle.std.proofs.Common.{ℕ, zero, suc, ◌+◌, ◌<◌, ◌≡◌, ◌∙◌, ap, refl, subst, List, [], ◌∷◌, length, Some, Result, Ok, Err, IfErr, slice_index_or, slice_set}
+use Rattle.san_base.specs.declared.ending.Trap.{Trap}
+use Rattle.san_law.specs.Net.{Done, Net, Row, no_row}
+use Rattle.san_law.specs.State.{State, local_of, slots_of}
+use Rattle.san_law.specs.Step as law
+use Rattle.san_law.specs.Network.{Limits}
+use Rattle.san_net.specs.Network.{Network}
+use Rattle.san_seq.specs.Completions.{completed_by, leaf_told, told_of}
+use Rattle.san_seq.specs.Rows.{row_at}
+use Rattle.san_seq.proofs.RowLemmas.{any_row}
+use Rattle.san_seq.specs.States.{Told, case_by, told_by}
+
+-- a state after a completion
+abbrev pub left_with : State → ℕ → ℕ → List ℕ → Row → State
+left_with s burst j m row = record { time = s.time; marking = m; stable = s.stable; rows = slice_set s.rows j row; burst = burst; last = Some j; count = s.count + 1 }
+
+module _ (net : Net) (s : State) (burst j k : ℕ) where
+  -- by what the law's completion leaves
+  by_done : (case : ℕ) (m : List ℕ) (row : Row) (r : Result Done Trap) → completed_by (Ok case) m row ≡ told_of (slots_of net j) s.marking r
+      → (case_by s.time j k (Ok case) ≡ told_by (law.complete net s burst j k r).0) × (left_with s burst j m row ≡ (law.complete net s burst j k r).1)
+  by_done case m row (Ok d) is =
+      let got = ok_is (case, m, row) _ is in (
+        ap (λ (x : ℕ × List ℕ × Row). (let told : Result Told (ℕ × law.Ending) = Ok (record { time = s.time; leaf = j; act = k; case = x.0 }) in told)) got,
+        ap (λ (x : ℕ × List ℕ × Row). left_with s burst j x.1 x.2) got,
+      )
+    where
+      ok_is : (x y : ℕ × List ℕ × Row) → (let r : Result (ℕ × List ℕ × Row) Trap = Ok x in r) ≡ Ok y → x ≡ y
+      ok_is x y e = cc
+  by_done case m row (Err trap) is = absurd cc
+
+  by_trap : (trap : Trap) (m : List ℕ) (row : Row) (r : Result Done Trap) → completed_by (Err trap) m row ≡ told_of (slots_of net j) s.marking r
+      → (case_by s.time j k (Err trap) ≡ told_by (law.complete net s burst j k r).0) × (s ≡ (law.complete net s burst j k r).1)
+  by_trap trap m row (Ok d) is = absurd cc
+  by_trap trap m row (Err other) is = (ap (λ (x : Trap). case_by s.time j k (Err x)) (err_is trap other is), refl)
+    where
+      err_is : (x y : Trap) → (let r : Result (ℕ × List ℕ × Row) Trap = Err x in r) ≡ Err y → x ≡ y
+      err_is x y e = cc
+
+  pub completes : (case : ℕ) (m : List ℕ) (row : Row) → completed_by (Ok case) m row ≡ told_of (slots_of net j) s.marking (net.done j k (local_of net s j))
+      → (case_by s.time j k (Ok case) ≡ told_by (law.complete net s burst j k (net.done j k (local_of net s j))).0)
+      × (left_with s burst j m row ≡ (law.complete net s burst j k (net.done j k (local_of net s j))).1)
+  completes case m row is = by_done case m row (net.done j k (local_of net s j)) is
+
+  pub traps : (trap : Trap) (m : List ℕ) (row : Row) → completed_by (Err trap) m row ≡ told_of (slots_of net j) s.marking (net.done j k (local_of net s j))
+      → (case_by s.time j k (Err trap) ≡ told_by (law.complete net s burst j k (net.done j k (local_of net s j))).0)
+      × (s ≡ (law.complete net s burst j k (net.done j k (local_of net s j))).1)
+  traps trap m row is = by_trap trap m row (net.done j k (local_of net s j)) is
+
+-- a row put back where it stood
+pub put_same : (rows : List Row) (j : ℕ) (r d : Row) → r ≡ slice_index_or rows j d → slice_set rows j r ≡ rows
+put_same [] j r d is = refl
+put_same (x ∷ xs) zero r d is = ap (λ (y : Row). y ∷ xs) is
+put_same (x ∷ xs) (suc j) r d is = ap (λ (ys : List Row). x ∷ ys) (put_same xs j r d is)
+
+-- a state with another marking and other rows
+abbrev pub with_both : State → List ℕ → List Row → State
+with_both s m rows = record { time = s.time; marking = m; stable = s.stable; rows = rows; burst = s.burst; last = s.last; count = s.count }
+
+-- what a trap leaves is the state
+pub kept : (v s : State) (j : ℕ) (m : List ℕ) (row now : Row) → m ≡ v.marking → now ≡ row → row ≡ slice_index_or v.rows j row → v ≡ s → with_both v m (slice_set v.rows j now) ≡ s
+kept v s j m row now same still is e =
+    ap (λ (x : List ℕ). with_both v x (slice_set v.rows j now)) same
+    ∙ ap (with_both v v.marking) (ap (slice_set v.rows j) still ∙ put_same v.rows j row row is) ∙ e
+
+pub if_err : (r : Result ℕ Trap) (trap : Trap) (P : Trap → Type 0) → r ≡ Err trap → IfErr r P → P trap
+if_err r trap P is holds = subst (λ (x : Result ℕ Trap). IfErr x P) is holds
+
+-- the row that is lent is the state's
+pub lent : (v s : State) (j : ℕ) (row : Row) → row ≡ slice_index_or v.rows j row → v ≡ s → j < length s.rows → row ≡ row_at s.rows j
+lent v s j row is e h =
+    is ∙ ap (λ (x : State). slice_index_or x.rows j row) e ∙ any_row s.rows j row no_row h
+
+-- what the completion left, in the state's own words
+pub told_in : (n : Network) (draw : ℕ → ℕ → ℕ) (limits : Limits) (v s : State) (j k : ℕ) (row : Row) → row ≡ slice_index_or v.rows j row → v ≡ s → j < length s.rows
+    → leaf_told n draw limits j k v.marking row ≡ leaf_told n draw limits j k s.marking (row_at s.rows j)
+told_in n draw limits v s j k row is e h =
+    ap (λ (x : State). leaf_told n draw limits j k x.marking row) e ∙ ap (leaf_told n draw limits j k s.marking) (lent v s j row is e h)

@@ -1,0 +1,21 @@
+use Rattle.std.proofs.Common.{arith, ◌∙◌, refl}
+use Rattle.std.proofs.lemmas.List.{length-set}
+use Rattle.san_seq.proofs.ValuesLemmas.{cell_below, one_put, put_back, rest_stays}
+use Rattle.san_seq.proofs.completing.put_values.Goals as goal
+
+pub bounds-marking-place_of : goal.bounds-marking-place_of
+bounds-marking-place_of c =
+    omega (arith, c.cells.invariant.sized, cell_below c.args.slots.now c.cells.at c.place_of.result c.cells-test.true c.place_of.ensures c.args.marking.now c.requires.over)
+
+pub cells-preserved : goal.cells-preserved
+cells-preserved c = record {
+  sized = length-set c.cells.marking c.place_of.result _ ∙ c.cells.invariant.sized;
+  rest = rest_stays c.args.slots.now c.cells.at c.place_of.result c.cells-test.true c.place_of.ensures c.cells.marking c.args.marking.now _ c.requires.over c.cells.invariant.rest;
+  front = one_put c.args.slots.now c.cells.at c.place_of.result c.cells-test.true c.place_of.ensures c.cells.marking c.args.marking.now _ c.args.values.now c.requires.over c.cells.invariant.sized refl
+      c.cells.invariant.front;
+}
+
+pub returns : goal.returns
+returns c =
+    put_back c.args.slots.now c.cells.marking c.args.marking.now c.args.values.now (omega (arith, c.requires.few, c.told-values)) c.cells.invariant.rest
+    (λ i b. c.cells.invariant.front i (omega (arith, b, c.cells-test.false)))

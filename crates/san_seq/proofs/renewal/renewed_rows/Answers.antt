@@ -1,0 +1,52 @@
+use Rattle.std.proofs.Common.{arith, ◌∙◌, ◌<◌, refl, sym, ap, length, slice_index_or, Result, ℕ}
+use Rattle.std.proofs.lemmas.List.{length-set}
+use Rattle.san_base.specs.declared.ending.Trap.{Trap}
+use Rattle.san_draw.specs.Key.{draw_of}
+use Rattle.san_law.specs.Renewal.{renewed_at}
+use Rattle.san_net.specs.Network.{net_of}
+use Rattle.san_seq.specs.Renewals.{renewing_by}
+use Rattle.san_seq.proofs.RowLemmas.{all_at, drawn_set, fresh_at, left_set, like_set, trapped_at}
+use Rattle.san_seq.proofs.renewal.renewed_rows.Goals as goal
+
+pub returns-in-Err-clause-rows : goal.returns-in-Err-clause-rows
+returns-in-Err-clause-rows c = λ limits s clock seen now.
+    let r = slice_index_or c.leaves.rows c.leaves.j c.index-rows-j.result in
+    let h : c.leaves.j < length c.leaves.rows = omega (arith, c.leaves-test.true, c.leaves-j-end.ensures, c.leaves.invariant.sized, c.requires.rows.each) in
+    let did =
+    ap (λ (x : Result (Unit {0}) (ℕ × Trap)). renewing_by x c.renewed_at-done.new.row) (sym c.in-Err.is)
+    ∙ c.renewed_at-done.ensures.row limits s clock seen (now ∙ sym c.leaves.invariant.same)
+    ∙ ap (λ (seed : ℕ). renewed_at (net_of c.args.flat.now (draw_of seed) limits) s c.leaves.j r) (ap (λ x. x.seed) c.leaves.invariant.streams) in
+    sym (c.leaves.invariant.rest limits s clock seen now ∙ trapped_at (net_of c.args.flat.now (draw_of c.args.streams.now.seed) limits) s c.leaves.rows c.leaves.j r c.index-rows-j.result c.renewed_at-done.new.row h refl c.in-Err.fault did)
+
+pub returns-in-Err-clause-numbers : goal.returns-in-Err-clause-numbers
+returns-in-Err-clause-numbers c = λ most before.
+    let r = slice_index_or c.leaves.rows c.leaves.j c.index-rows-j.result in
+    let h : c.leaves.j < length c.leaves.rows = omega (arith, c.leaves-test.true, c.leaves-j-end.ensures, c.leaves.invariant.sized, c.requires.rows.each) in
+    drawn_set c.args.rows.now c.leaves.rows c.leaves.j r c.index-rows-j.result c.renewed_at-done.new.row h refl (c.leaves.invariant.left c.leaves.j (omega arith)) most before (c.leaves.invariant.numbers most before)
+    (c.renewed_at-done.ensures.numbers most)
+
+pub leaves-preserved : goal.leaves-preserved
+leaves-preserved c =
+    let r = slice_index_or c.leaves.rows c.leaves.j c.index-rows-j.result in
+    let h : c.leaves.j < length c.leaves.rows = omega (arith, c.leaves-test.true, c.leaves-j-end.ensures, c.leaves.invariant.sized, c.requires.rows.each) in
+    let here = c.leaves.invariant.left c.leaves.j (omega arith) in
+    record {
+      rest = λ limits s clock seen now.
+          let did =
+          ap (λ (x : Result (Unit {0}) (ℕ × Trap)). renewing_by x c.renewed_at-done.new.row) (sym c.in-Ok.is)
+          ∙ c.renewed_at-done.ensures.row limits s clock seen (now ∙ sym c.leaves.invariant.same)
+          ∙ ap (λ (seed : ℕ). renewed_at (net_of c.args.flat.now (draw_of seed) limits) s c.leaves.j r) (ap (λ x. x.seed) c.leaves.invariant.streams) in
+          c.leaves.invariant.rest limits s clock seen now
+          ∙ fresh_at (net_of c.args.flat.now (draw_of c.args.streams.now.seed) limits) s c.leaves.rows c.leaves.j r c.index-rows-j.result c.renewed_at-done.new.row h refl did;
+      left = left_set c.args.rows.now c.leaves.rows c.leaves.j c.renewed_at-done.new.row c.leaves.invariant.left;
+      numbers = λ most before. drawn_set c.args.rows.now c.leaves.rows c.leaves.j r c.index-rows-j.result c.renewed_at-done.new.row h refl here most before (c.leaves.invariant.numbers most before) (c.renewed_at-done.ensures.numbers most);
+      like = like_set c.args.rows.now c.leaves.rows c.leaves.j r c.index-rows-j.result c.renewed_at-done.new.row h refl here c.leaves.invariant.like c.renewed_at-done.ensures.like;
+      sized = length-set c.leaves.rows c.leaves.j c.renewed_at-done.new.row ∙ c.leaves.invariant.sized;
+      same = c.renewed_at-done.ensures.marking ∙ c.leaves.invariant.same;
+      streams = c.renewed_at-done.ensures.streams ∙ c.leaves.invariant.streams;
+    }
+
+pub returns-clause-rows : goal.returns-clause-rows
+returns-clause-rows c = λ limits s clock seen now.
+    sym (c.leaves.invariant.rest limits s clock seen now
+    ∙ all_at (net_of c.args.flat.now (draw_of c.args.streams.now.seed) limits) s c.leaves.rows c.leaves.j (omega (arith, c.leaves-test.false, c.leaves-j-end.ensures, c.leaves.invariant.sized, c.requires.rows.each)))

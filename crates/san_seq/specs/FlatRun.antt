@@ -1,0 +1,125 @@
+-- A run of a network: the law's steps of its net, one after another.
+use Rattle.std.specs.Prelude.{ℕ, suc, ◌*◌, ◌+◌, ◌-◌, ◌≤◌, ◌<◌, ◌≡◌, ◌++◌, List, [], ◌∷◌, length, Option, Some, None, Result, Ok, Err}
+use Rattle.std.specs.Option.{option_map}
+use Rattle.san_base.specs.declared.ending.Ending.{Ending}
+use Rattle.san_base.specs.declared.ending.Ending.TheVariants as ending
+use Rattle.san_base.specs.declared.ending.Event.{Event}
+use Rattle.san_base.specs.declared.limits.Limits.{Limits}
+use Rattle.san_base.specs.Limits.{IsInRange}
+use Rattle.san_draw.specs.Key.{draw_of}
+use Rattle.san_law.specs.Net.{Net}
+use Rattle.san_law.specs.State.{State, opening_state}
+use Rattle.san_law.specs.Step as law
+use Rattle.san_law.specs.Trajectory as whole
+use Rattle.san_net.specs.Laid.{acts_of}
+use Rattle.san_net.specs.Network.{Network, net_of}
+use Rattle.san_seq.specs.Overs.{limits_in}
+use Rattle.san_seq.specs.Running.{IsRunning}
+use Rattle.san_seq.specs.Telling.{ending_in, told_of, trajectory_in}
+use Rattle.san_seq.specs.declared.flat_run.Going as code
+use Rattle.san_seq.specs.declared.flat_run.Going.TheVariants as going
+use Rattle.san_seq.specs.declared.steps.Trajectory.{Trajectory}
+
+-- a run goes on from a state, or is over: with the marking that it left, and its ending
+pub data Going : Type 0 where
+  On : (state : State) → Going
+  Done : (marking : List ℕ) (ending : Ending) → Going
+
+abbrev pub going_in : code.Going → Going
+going_in (going.On state) = On state
+going_in (going.Done marking ending) = Done marking.items ending
+
+-- a run of a network with a seed and limits
+pub record Run : Type 0 where
+  pub network : Network
+  pub seed : ℕ
+  pub limits : Limits
+  pub going : Going
+
+-- the net that the law steps: the draws are the seed's
+abbrev pub net_in : Run → Net
+net_in r = net_of r.network (draw_of r.seed) (limits_in r.limits)
+
+-- what a step of the law leaves of a run
+abbrev pub left_by : Network → law.Stepped × State → Going
+left_by n (law.Happened e, s) = On s
+left_by n (law.Over time e, s) = Done s.marking (ending_in n time e)
+
+-- a step tells the law's event or ending; once the run is over, the same again
+abbrev pub stepped : Network → Net → Going → Result Event Ending × Going
+stepped n net (On s) = (told_of n (law.step net s).0, left_by n (law.step net s))
+stepped n net (Done marking e) = (Err e, Done marking e)
+
+abbrev pub step_of : Run → Result Event Ending × Going
+step_of r = stepped r.network (net_in r) r.going
+
+-- the run after a step
+abbrev pub after_step : Run → Run
+after_step r = record { network = r.network; seed = r.seed; limits = r.limits; going = (step_of r).1 }
+
+-- the marking of a run
+abbrev pub marking_of : Going → List ℕ
+marking_of (On s) = s.marking
+marking_of (Done marking e) = marking
+
+-- the events from here on, and the ending: the law's trajectory
+abbrev pub rest_by : Network → Net → Going → Option Trajectory
+rest_by n net (On s) = option_map (trajectory_in n) (whole.trajectory net s)
+rest_by n net (Done marking e) = Some (record { events = []; ending = e })
+
+abbrev pub rest_of : Run → Option Trajectory
+rest_of r = rest_by r.network (net_in r) r.going
+
+-- events, and then the rest
+abbrev pub ahead : List Event → Option Trajectory → Option Trajectory
+ahead events None = None
+ahead events (Some t) = Some (record { events = events ++ t.events; ending = t.ending })
+
+-- how many steps are left at most until the run is over
+abbrev pub steps_at : ℕ → Going → ℕ
+steps_at limit (On s) = suc (limit - s.count)
+steps_at limit (Done marking e) = 0
+
+abbrev pub steps_left : Run → ℕ
+steps_left r = steps_at r.limits.events r.going
+
+-- steps from a run that tell just these events, to another
+abbrev pub Tells : Run → List Event → Run → Type 0
+Tells r [] t = r ≡ t
+Tells r (e ∷ es) t = ((step_of r).0 ≡ Ok e) × Tells (after_step r) es t
+
+-- events that steps told are the first of the trajectory, and what follows them is that of the run that they left; there are no more than the event limit leaves
+pub record IsPrefix (r t : Run) (es : List Event) : Type 0 where
+  pub rest : rest_of r ≡ ahead es (rest_of t)
+  pub few : length es + steps_left t ≤ steps_left r
+
+abbrev pub TellsPrefix : Run → Type 0
+TellsPrefix r = (t : Run) (es : List Event) → Tells r es t → IsPrefix r t es
+
+-- every run comes to an ending
+abbrev pub HasRest : Run → Type 0
+HasRest r = (t : Trajectory) × (rest_of r ≡ Some t)
+
+-- what holds of a run between its steps
+abbrev pub IsGoing : Network → Limits → Going → Type 0
+IsGoing n limits (On s) = IsRunning n limits s
+IsGoing n limits (Done marking e) = Unit {0}
+
+pub record IsRun (n : Network) (limits : Limits) (streams : ℕ) (where_it_is : Going) : Type 0 where
+  pub range : IsInRange limits
+  pub draws : 2 * acts_of n.parts ≤ streams
+  pub going : IsGoing n limits where_it_is
+
+-- a run is held
+abbrev pub IsHeld : Network → Limits → ℕ → Option code.Going → Type 0
+IsHeld n limits streams None = ⊥
+IsHeld n limits streams (Some now) = IsRun n limits streams (going_in now)
+
+-- where a run that is held is
+abbrev pub going_of : Option code.Going → Going
+going_of None = Done [] (ending.End (record { 0 = 0 }))
+going_of (Some now) = going_in now
+
+-- the run that has not begun
+abbrev pub opening : Network → ℕ → Limits → Run
+opening n seed limits = record { network = n; seed = seed; limits = limits; going = On (opening_state (net_of n (draw_of seed) (limits_in limits))) }

@@ -1,0 +1,98 @@
+ghost use Rattle.std.specs.Prelude.{◌≡◌, ◌≤◌, ◌<◌, ◌+◌, ◌*◌, ◌^◌, ℕ, length, slice_get, slice_index, Some};
+ghost use Rattle.san_draw.specs.Key.{draw_of};
+ghost use Rattle.san_law.specs.Network.{Limits};
+ghost use Rattle.san_net.specs.Laid.{acts_of};
+ghost use Rattle.san_net.specs.declared.part.Part.{Part};
+ghost use Rattle.san_seq.specs.Rows.{AreRows, row_at};
+ghost use Rattle.san_seq.specs.States.{case_by, complete_in, told_by};
+
+use crate::completion::completed_at;
+use crate::rows::Row;
+use san_base::{LeafId, Trap};
+use san_draw::Streams;
+use san_net::Flat;
+use std::marker::Model;
+
+/// A run's time in ticks, its marking and the one at the last stable point, the rows of its
+/// leaves, the burst, the leaf that completed last, and the count of events.
+#[derive(Drop)]
+pub(crate) struct State {
+    pub(crate) time: u64,
+    pub(crate) marking: Vec<u32>,
+    pub(crate) stable: Vec<u32>,
+    pub(crate) rows: Vec<Row>,
+    pub(crate) burst: u64,
+    pub(crate) last: Option<LeafId>,
+    pub(crate) count: u64,
+}
+
+impl Model for State {
+    ghost use Rattle.std.specs.Option.{option_map};
+    ghost use Rattle.san_law.specs.State as law;
+
+    ghost Value = { law.State };
+
+    ghost view = { λ s. record { time = s.time; marking = s.marking.items; stable = s.stable.items; rows = s.rows.items; burst = s.burst; last = option_map (λ leaf. leaf.0) s.last; count = s.count } };
+}
+
+/// Completes an activity of a leaf, which gives the burst: its case. A trap leaves the state as it
+/// was.
+pub(crate) fn complete(
+    flat: &Flat,
+    streams: &mut Streams,
+    leaf: LeafId,
+    act: u32,
+    burst: u64,
+    state: State,
+) -> (Result<u32, Trap>, State)
+    requires leaf { leaf.0 < length flat.now.parts }
+    requires act { (p : Part) → slice_get flat.now.parts leaf.0 ≡ Some p
+        → act < length p.atomic.acts }
+    requires sized { length state.marking ≡ length flat.now.initial }
+    requires rows { AreRows flat.now.parts state.rows }
+    requires streams { 2 * acts_of flat.now.parts ≤ streams.old.streams }
+    requires number { slice_index (row_at state.rows leaf.0).cases act + 1 < 2 ^ 40 }
+    requires count { state.count + 1 < 2 ^ 40 }
+    ensures told { (limits : Limits) → case_by state.time leaf.0 act result.0
+        ≡ told_by (complete_in flat.now (draw_of streams.old.seed) limits state burst leaf.0
+        act).0 }
+    ensures left { (limits : Limits) → result.1
+        ≡ (complete_in flat.now (draw_of streams.old.seed) limits state burst leaf.0 act).1 }
+    ensures streams { streams.new ≡ streams.old }
+{
+    let mut rows = state.rows;
+    let (case, marking) = completed_at(
+        flat,
+        streams,
+        leaf,
+        act,
+        &mut rows[leaf.0 as usize],
+        state.marking,
+    );
+    match case {
+        Ok(case) => {
+            let left = State {
+                time: state.time,
+                marking,
+                stable: state.stable,
+                rows,
+                burst,
+                last: Some(leaf),
+                count: state.count + 1,
+            };
+            (Ok(case), left)
+        }
+        Err(trap) => {
+            let left = State {
+                time: state.time,
+                marking,
+                stable: state.stable,
+                rows,
+                burst: state.burst,
+                last: state.last,
+                count: state.count,
+            };
+            (Err(trap), left)
+        }
+    }
+}

@@ -1,0 +1,234 @@
+ghost use Rattle.std.specs.Prelude.{◌≡◌, ◌≤◌, ◌<◌, ◌+◌, ◌*◌, ◌^◌, ℕ, length, Some, IfOk};
+ghost use Rattle.std.specs.Option.{option_map};
+ghost use Rattle.san_draw.specs.Key.{draw_of};
+ghost use Rattle.san_law.specs.Next as law;
+ghost use Rattle.san_law.specs.Network.{Limits as Bounds};
+ghost use Rattle.san_law.specs.Renewal.{renewed_from};
+ghost use Rattle.san_law.specs.State as law_state;
+ghost use Rattle.san_law.specs.Step as law_step;
+ghost use Rattle.san_net.specs.Laid.{acts_of};
+ghost use Rattle.san_net.specs.Network.{net_of};
+ghost use Rattle.san_base.specs.Limits.{IsInRange};
+ghost use Rattle.san_seq.specs.Dues.{due_in};
+ghost use Rattle.san_seq.specs.Nexts.{next_in};
+ghost use Rattle.san_seq.specs.Overs.{limits_in, told_case};
+ghost use Rattle.san_seq.specs.Rows.{AreDrawn, AreRows, IsLike, renewal_by, row_at};
+ghost use Rattle.san_seq.specs.Running.{IsDrawn, IsRunning, Steps, told_in, with_rows};
+ghost use Rattle.san_seq.specs.declared.limited.Over.TheVariants as over;
+
+use crate::due::{Due, least_due};
+use crate::firing::fired;
+use crate::limited::{Over, complete_instant, complete_timed};
+use crate::next::{Next, next_instant};
+use crate::renewal::renewed_rows;
+use crate::state::State;
+use san_base::{LeafId, Limits, Trap};
+use san_delay::DelayTables;
+use san_draw::Streams;
+use san_net::Flat;
+
+/// A completion: its time in ticks, its leaf, its activity's number there, and its case.
+#[derive(Clone, Copy, Debug, PartialEq, Eq)]
+pub(crate) struct Completion {
+    pub(crate) time: u64,
+    pub(crate) leaf: LeafId,
+    pub(crate) act: u32,
+    pub(crate) case: u32,
+}
+
+/// When a run ends, in ticks, and how.
+#[derive(Clone, Copy, Debug, PartialEq, Eq)]
+pub(crate) struct Ended {
+    pub(crate) time: u64,
+    pub(crate) over: Over,
+}
+
+/// What an activity's completion at a time comes to.
+fn told(time: u64, leaf: LeafId, act: u32, case: Result<u32, Over>) -> Result<Completion, Ended>
+    ensures { told_in result ≡ told_case time leaf.0 act case }
+{
+    match case {
+        Ok(case) => Ok(Completion {
+            time,
+            leaf,
+            act,
+            case,
+        }),
+        Err(over) => Err(Ended { time, over }),
+    }
+}
+
+/// Which instantaneous activity completes next in a state, which comes back as it was.
+fn next_of(flat: &Flat, state: State) -> (Next, State)
+    requires last { (j : ℕ) → state.last ≡ Some j → j < length flat.now.parts }
+    requires sized { length state.marking ≡ length flat.now.initial }
+    ensures next { (draw : ℕ → ℕ → ℕ) (bounds : Bounds) → next_in result.0
+        ≡ law.next_instant (net_of flat.now draw bounds) state }
+    ensures left { result.1 ≡ state }
+{
+    flat.is_network();
+    let (next, marking) = next_instant(flat, state.last, state.marking);
+    let left = State {
+        time: state.time,
+        marking,
+        stable: state.stable,
+        rows: state.rows,
+        burst: state.burst,
+        last: state.last,
+        count: state.count,
+    };
+    (next, left)
+}
+
+/// The state with all timers renewed, or up to the first trap.
+fn renewed(
+    flat: &Flat,
+    tables: &DelayTables,
+    streams: &mut Streams,
+    state: State,
+) -> (Result<(), (LeafId, u32, Trap)>, State)
+    requires sized { length state.marking ≡ length flat.now.initial }
+    requires stable { length state.stable ≡ length flat.now.initial }
+    requires rows { AreRows flat.now.parts state.rows }
+    requires streams { 2 * acts_of flat.now.parts ≤ streams.old.streams }
+    requires numbers { AreDrawn state.count state.rows }
+    requires count { state.count < 2 ^ 30 }
+    requires time { state.time < 2 ^ 62 }
+    ensures rows { (bounds : Bounds) → renewal_by result.0 result.1.rows
+        ≡ renewed_from (net_of flat.now (draw_of streams.old.seed) bounds) state 0 state.rows }
+    ensures left { result.1 ≡ with_rows result.1.rows state }
+    ensures numbers { AreDrawn (state.count + 1) result.1.rows }
+    ensures sized { length result.1.rows ≡ length state.rows }
+    ensures like { (j : ℕ) → IsLike (row_at result.1.rows j) (row_at state.rows j) }
+    ensures streams { streams.new ≡ streams.old }
+{
+    let mut rows = state.rows;
+    let stable = state.stable;
+    let (done, marking) = renewed_rows(
+        flat,
+        tables,
+        streams,
+        state.time,
+        stable.as_slice(),
+        rows.as_mut_slice(),
+        state.marking,
+    );
+    let left = State {
+        time: state.time,
+        marking,
+        stable,
+        rows,
+        burst: state.burst,
+        last: state.last,
+        count: state.count,
+    };
+    (done, left)
+}
+
+/// The activity of a timer completes where it is due by the horizon, else the run ends there.
+fn at_due(
+    flat: &Flat,
+    streams: &mut Streams,
+    limits: &Limits,
+    due: Due,
+    state: State,
+) -> (Result<Completion, Ended>, State)
+    requires range { IsInRange limits.now }
+    requires drawn { IsDrawn flat.now limits.now (state.count + 1) state }
+    requires leaf { due.leaf.0 < length state.rows }
+    requires act { due.act < length (row_at state.rows due.leaf.0).timers }
+    requires streams { 2 * acts_of flat.now.parts ≤ streams.old.streams }
+    ensures steps { (s : law_state.State) → with_rows state.rows s ≡ state → Steps result.0 result.1
+        (law_step.at_due (net_of flat.now (draw_of streams.old.seed) (limits_in limits.now)) s
+        state.rows (Some (due_in due))) }
+    ensures running { IfOk result.0 (λ c. IsRunning flat.now limits.now result.1) }
+    ensures streams { streams.new ≡ streams.old }
+{
+    if due.time <= limits.horizon.0 {
+        let then = fired(due, state);
+        let (case, left) = complete_timed(flat, streams, limits, due.leaf, due.act, then);
+        (told(due.time, due.leaf, due.act, case), left)
+    } else {
+        (Err(at_horizon(limits)), state)
+    }
+}
+
+/// The run's end at its horizon.
+fn at_horizon(limits: &Limits) -> Ended
+    ensures { result ≡ record { time = limits.now.horizon.0; over = over.End } }
+{
+    Ended {
+        time: limits.horizon.0,
+        over: Over::End,
+    }
+}
+
+/// All timers are renewed, and the activity of the one that is due first completes.
+fn at_rest(
+    flat: &Flat,
+    tables: &DelayTables,
+    streams: &mut Streams,
+    limits: &Limits,
+    state: State,
+) -> (Result<Completion, Ended>, State)
+    requires range { IsInRange limits.now }
+    requires running { IsRunning flat.now limits.now state }
+    requires streams { 2 * acts_of flat.now.parts ≤ streams.old.streams }
+    ensures steps { Steps result.0 result.1 (law_step.at_next (net_of flat.now
+        (draw_of streams.old.seed) (limits_in limits.now)) state law.Stable) }
+    ensures running { IfOk result.0 (λ c. IsRunning flat.now limits.now result.1) }
+    ensures streams { streams.new ≡ streams.old }
+{
+    flat.is_network();
+    let (done, left) = renewed(flat, tables, streams, state);
+    match done {
+        Ok(()) => match least_due(left.rows.as_slice()) {
+            Some(due) => at_due(flat, streams, limits, due, left),
+            None => (Err(at_horizon(limits)), left),
+        },
+        Err((leaf, act, trap)) => {
+            let ended = Ended {
+                time: left.time,
+                over: Over::Trapped(leaf, act, trap),
+            };
+            (Err(ended), left)
+        }
+    }
+}
+
+/// One step of a run (own rules): the next instantaneous activity completes; where there is none,
+/// the timers are renewed and the one that is due first completes. When the run is over, its
+/// marking is left.
+pub(crate) fn step(
+    flat: &Flat,
+    tables: &DelayTables,
+    streams: &mut Streams,
+    limits: &Limits,
+    state: State,
+) -> (Result<Completion, Ended>, State)
+    requires range { IsInRange limits.now }
+    requires running { IsRunning flat.now limits.now state }
+    requires streams { 2 * acts_of flat.now.parts ≤ streams.old.streams }
+    ensures steps { Steps result.0 result.1 (law_step.step (net_of flat.now
+        (draw_of streams.old.seed) (limits_in limits.now)) state) }
+    ensures running { IfOk result.0 (λ c. IsRunning flat.now limits.now result.1) }
+    ensures streams { streams.new ≡ streams.old }
+{
+    flat.is_network();
+    let (next, state) = next_of(flat, state);
+    match next {
+        Next::Stable => at_rest(flat, tables, streams, limits, state),
+        Next::Completes(leaf, act) => {
+            let time = state.time;
+            let (case, left) = complete_instant(flat, streams, limits, leaf, act, state);
+            (told(time, leaf, act, case), left)
+        }
+        Next::Traps(leaf, act, trap) => {
+            let ended = Ended {
+                time: state.time,
+                over: Over::Trapped(leaf, act, trap),
+            };
+            (Err(ended), state)
+        }
+    }
+}
