@@ -156,7 +156,7 @@ gate_takes : (version : ℕ) → Takes (gate_at version)
 unfolding gate_at seq sign_then done
 gate_takes version = takes_sign (sign.Keyword keyword.Gate) (seq_local (expr_local version) (λ e. seq_local (function_local version) (λ b. done_local (input.Gate e b))))
 
-inputs_listed : (version : ℕ) → Listed starts_input (input_at version)
+pub inputs_listed : (version : ℕ) → Listed starts_input (input_at version)
 unfolding input_at choice starts_input is_next
 inputs_listed version = listed refl (λ w us vs. refl) (takes_choice (sign.Keyword keyword.In) in_local (gate_takes version)) (choice_local (sign.Keyword keyword.In) in_local (gate_local version))
 
@@ -241,7 +241,7 @@ pair_local version = maybe_local (next_keyword keyword.React) (key_first keyword
 abbrev timing_of : DistDecl → Option (Ast × Ast) → Timing
 timing_of d p = record { delay = d; pair = p }
 
-timing_local : (version : ℕ) → Local (timing_at version)
+pub timing_local : (version : ℕ) → Local (timing_at version)
 unfolding timing_at seq sign_then done
 timing_local version = sign_local (sign.Keyword keyword.Delay) (seq_local (dist_local version) (λ d. sign_local (sign.Mark mark.Semicolon) (seq_local (pair_local version) (λ p. done_local (timing_of d p)))))
 
@@ -257,7 +257,7 @@ timed_local version = seq_local name_local (λ n. sign_local (sign.Mark mark.Ope
 called_first : (version : ℕ) (w : Word) (us vs : List Word) → (has_priorities version && is_called (codes "priority") (name_of (w ∷ us))) ≡ (has_priorities version && is_called (codes "priority") (name_of (w ∷ vs)))
 called_first version w us vs = ap (λ o. has_priorities version && is_called (codes "priority") o) (name_first w us vs)
 
-priority_local : (version : ℕ) → Local (priority_at version)
+pub priority_local : (version : ℕ) → Local (priority_at version)
 unfolding priority_at seq done maybe
 priority_local version = maybe_local (λ ws. has_priorities version && is_called (codes "priority") (name_of ws)) (called_first version) (seq_local number_local (λ n. done_local (Some n)))
 
@@ -272,7 +272,7 @@ instant_takes : (version : ℕ) → Takes (instant_at version)
 unfolding instant_at seq sign_then done
 instant_takes version = takes_sign (sign.Keyword keyword.Instant) (seq_local name_local (λ n. seq_local (priority_local version) (λ p. sign_local (sign.Mark mark.OpenBrace) (seq_local (all_local (inputs_listed version)) (λ i. seq_local (cases_local version) (λ c. sign_local (sign.Mark mark.CloseBrace) (done_local (instant_of n p i c))))))))
 
-acts_listed : (version : ℕ) → Listed starts_act (act_at version)
+pub acts_listed : (version : ℕ) → Listed starts_act (act_at version)
 unfolding act_at choice starts_act is_next
 acts_listed version = listed refl (λ w us vs. refl) (takes_choice (sign.Keyword keyword.Timed) (timed_local version) (instant_takes version)) (choice_local (sign.Keyword keyword.Timed) (timed_local version) (instant_local version))
 
