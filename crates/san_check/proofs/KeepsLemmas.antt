@@ -226,25 +226,32 @@ split : {A : Type 0} (t rest : List A) (x : A) → (t ++ x ∷ []) ++ rest ≡ t
 split [] rest x = refl
 split (y ∷ t) rest x = ap (λ u. y ∷ u) (split t rest x)
 
-nodes_keep : (all known : Models) (n atomics : ℕ) (ms : List ModelDecl) → all ≡ all_models known ms → length known ≡ n → length all ≤ 4294967295 → FewShown known → Free (models_entries known n ms) → (i : ℕ) → KeepsAt all (tree.node_at (nodes_from all atomics ms) i) (n + i)
+-- a model of this name isn't known before it
+new_model : (known : Models) (n : ℕ) (m : ModelDecl) (ms : List ModelDecl) → Free (models_entries known n (m ∷ ms)) → with_model known m ≡ known ++ (name_of m, known_of known m) ∷ []
 unfolding name_code
+new_model known n m ms f = declared_last known (name_of m) (known_of known m) (code_free 20 (is_known known (name_of m)) (else_first (code 20 (is_known known (name_of m))) (code 42 (nat_le 256 n)) f.0))
+
+-- a model stands behind those before it
+pub model_at : (all known : Models) (n : ℕ) (m : ModelDecl) (ms : List ModelDecl) → all ≡ all_models known (m ∷ ms) → length known ≡ n → Free (models_entries known n (m ∷ ms)) → slice_get all n ≡ Some (name_of m, known_of known m)
+model_at all known n m ms is long f =
+    let more = models_grow (with_model known m) ms in
+    let listed = is ∙ more.1 ∙ ap (λ (t : Models). t ++ more.0) (new_model known n m ms f) ∙ split known more.0 (name_of m, known_of known m) in
+    ap₂ (λ (t : Models) (j : ℕ). slice_get t j) listed (sym long) ∙ at_end known more.0 (name_of m, known_of known m)
+
+pub one_model_more : (known : Models) (n : ℕ) (m : ModelDecl) (ms : List ModelDecl) → length known ≡ n → Free (models_entries known n (m ∷ ms)) → length (with_model known m) ≡ n + 1
+one_model_more known n m ms long f = let longer = ap length (new_model known n m ms f) ∙ one_longer known (name_of m, known_of known m) in omega (arith, longer, long)
+
+nodes_keep : (all known : Models) (n atomics : ℕ) (ms : List ModelDecl) → all ≡ all_models known ms → length known ≡ n → length all ≤ 4294967295 → FewShown known → Free (models_entries known n ms) → (i : ℕ) → KeepsAt all (tree.node_at (nodes_from all atomics ms) i) (n + i)
 nodes_keep all known n atomics [] is long few shown h i c p k e = absurd (true≢false (sym (ap is_some e)))
 nodes_keep all known n atomics (m ∷ ms) is long few shown h zero c p k e =
     let grown = models_grow known (m ∷ ms) in
-    let new = code_free 20 (is_known known (name_of m)) (else_first (code 20 (is_known known (name_of m))) (code 42 (nat_le 256 n)) h.0) in
-    let more = models_grow (with_model known m) ms in
-    let listed = is ∙ more.1 ∙ ap (λ (t : Models). t ++ more.0) (declared_last known (name_of m) (known_of known m) new) ∙ split known more.0 (name_of m, known_of known m) in
-    let at : slice_get all n ≡ Some (name_of m, known_of known m) = ap₂ (λ (t : Models) (j : ℕ). slice_get t j) listed (sym long) ∙ at_end known more.0 (name_of m, known_of known m) in
     subst (λ j. shown_at all (tree.child_of (node_of all atomics m) c) p ≡ shown_at all j k) (omega arith)
-    (node_keeps all known grown.0 atomics m (name_of m) n (is ∙ grown.1) few shown at (free_left (model_entries known m) (models_entries (with_model known m) (n + 1) ms) h.1) c p k e)
+    (node_keeps all known grown.0 atomics m (name_of m) n (is ∙ grown.1) few shown (model_at all known n m ms is long h) (free_left (model_entries known m) (models_entries (with_model known m) (n + 1) ms) h.1) c p k e)
 nodes_keep all known n atomics (m ∷ ms) is long few shown h (suc i) c p k e =
-    let new = code_free 20 (is_known known (name_of m)) (else_first (code 20 (is_known known (name_of m))) (code 42 (nat_le 256 n)) h.0) in
-    let last = declared_last known (name_of m) (known_of known m) new in
-    let longer = ap length last ∙ one_longer known (name_of m, known_of known m) in
     let little = known_few known m (free_left (model_entries known m) (models_entries (with_model known m) (n + 1) ms) h.1) in
-    let shown_more = subst FewShown (sym last) (few_push known (name_of m, known_of known m) shown little) in
+    let shown_more = subst FewShown (sym (new_model known n m ms h)) (few_push known (name_of m, known_of known m) shown little) in
     subst (λ j. shown_at all (tree.child_of (tree.node_at (nodes_from all (atomics_after atomics m) ms) i) c) p ≡ shown_at all j k) (omega arith)
-    (nodes_keep all (with_model known m) (n + 1) (atomics_after atomics m) ms is (omega (arith, longer, long)) few shown_more (free_right (model_entries known m) (models_entries (with_model known m) (n + 1) ms) h.1) i c p k e)
+    (nodes_keep all (with_model known m) (n + 1) (atomics_after atomics m) ms is (one_model_more known n m ms long h) few shown_more (free_right (model_entries known m) (models_entries (with_model known m) (n + 1) ms) h.1) i c p k e)
 
 pub keeps : (s : Syntax) → syntax_fault s ≡ None → tree.Keeps (nodes_of s) (shown_of s)
 unfolding syntax_entries nodes_of shown_of

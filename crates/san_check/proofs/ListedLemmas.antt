@@ -25,13 +25,22 @@ use Rattle.san_check.proofs.FreeLemmas.{Free, free_left, free_right, code_free, 
 use Rattle.san_check.proofs.TreeLemmas.{grows, shares_free, shown_free}
 use Rattle.san_check.proofs.NumberLemmas.{number_is}
 
-nothing_behind : {A : Type 0} (xs : List A) → xs ++ [] ≡ xs
+pub nothing_behind : {A : Type 0} (xs : List A) → xs ++ [] ≡ xs
 nothing_behind [] = refl
 nothing_behind (x ∷ xs) = ap (λ ys. x ∷ ys) (nothing_behind xs)
 
 -- one declaration more, of a name that isn't known
 one_more : {V : Type 0} (t rest all : Table V) (name : List ℕ) (v : V) → is_known t name ≡ false → all ≡ declared t name v ++ rest → all ≡ t ++ (name, v) ∷ rest
 one_more t rest all name v h is = is ∙ ap (λ u. u ++ rest) (declared_last t name v h) ∙ append_assoc t ((name, v) ∷ []) rest
+
+pub places_listed : (places : Places) (cells : ℕ) (ps : List PlaceDecl) → Free (places_entries places cells ps) → all_places places ps ≡ places ++ map (λ p. (p.name, place_of p)) ps
+unfolding place_code
+places_listed places cells [] h = sym (nothing_behind places)
+places_listed places cells (p ∷ ps) h =
+    let behind = free_right (length_entries cells p.length) (initial_entries p.initial ++ places_entries (with_place places p) (counted cells (cells_of p)) ps) h.1 in
+    one_more places (map (λ p. (p.name, place_of p)) ps) (all_places (with_place places p) ps) p.name (place_of p)
+    (code_free 20 (is_known places p.name) (else_first (code 20 (is_known places p.name)) (code 40 (is_none p.length && nat_lt 256 (counted cells 1))) h.0))
+    (places_listed (with_place places p) (counted cells (cells_of p)) ps (free_right (initial_entries p.initial) (places_entries (with_place places p) (counted cells (cells_of p)) ps) behind))
 
 pub children_listed : (models : Models) (children : Children) (n : ℕ) (cs : List ChildDecl) → Free (children_entries models children n cs) → all_children models children cs ≡ children ++ map (λ c. (c.name, shown_by models c.of)) cs
 unfolding child_code
@@ -117,20 +126,20 @@ shown_grow : (places t : Places) (ss : List (List ℕ)) → length (all_shown pl
 shown_grow places t [] = omega arith
 shown_grow places t (s ∷ ss) = let one = (grows t s (shown_as (found places s))).2 in let more = shown_grow places (with_shown places t s) ss in omega (arith, one, more)
 
-or_left : (a b : Bool) → (a || b) ≡ false → a ≡ false
+pub or_left : (a b : Bool) → (a || b) ≡ false → a ≡ false
 or_left true b h = h
 or_left false b h = refl
 
-or_right : (a b : Bool) → (a || b) ≡ false → b ≡ false
+pub or_right : (a b : Bool) → (a || b) ≡ false → b ≡ false
 or_right true b h = absurd (true≢false h)
 or_right false b h = h
 
-positive : (l : ℕ) → nat_eq l 0 ≡ false → 0 < l
+pub positive : (l : ℕ) → nat_eq l 0 ≡ false → 0 < l
 positive zero h = absurd (true≢false h)
 positive (suc l) h = omega arith
 
 -- a place takes a cell at least
-cell_free : (cells : ℕ) (l : Option ℕ) → code 40 (is_none l && nat_lt 256 (counted cells 1)) ≡ None → Free (length_entries cells l) → cells ≤ 256 → (suc cells ≤ counted cells (unwrap_or l 1)) × (counted cells (unwrap_or l 1) ≤ 256)
+pub cell_free : (cells : ℕ) (l : Option ℕ) → code 40 (is_none l && nat_lt 256 (counted cells 1)) ≡ None → Free (length_entries cells l) → cells ≤ 256 → (suc cells ≤ counted cells (unwrap_or l 1)) × (counted cells (unwrap_or l 1) ≤ 256)
 unfolding length_entries
 cell_free cells None h k few = let fits = ltb-false 256 (counted cells 1) (code_free 40 (nat_lt 256 (counted cells 1)) h) in (omega (arith, fits), fits)
 cell_free cells (Some l) h k few =
@@ -139,7 +148,7 @@ cell_free cells (Some l) h k few =
     let fits = ltb-false 256 (counted cells l) (or_right (nat_eq l 0) (nat_lt 256 (counted cells l)) both) in
     (omega (arith, some, fits), fits)
 
-places_few : (places : Places) (cells n : ℕ) (ps : List PlaceDecl) → n ≤ cells → cells ≤ 256 → Free (places_entries places cells ps) → n + length ps ≤ 256
+pub places_few : (places : Places) (cells n : ℕ) (ps : List PlaceDecl) → n ≤ cells → cells ≤ 256 → Free (places_entries places cells ps) → n + length ps ≤ 256
 unfolding place_code
 places_few places cells n [] lt few h = omega arith
 places_few places cells n (p ∷ ps) lt few h =

@@ -140,9 +140,9 @@ models_free known k (m ∷ ms) lt h =
     let more = models_free (with_model known m) (k + 1) ms (omega (arith, fits)) (free_right (model_entries known m) (models_entries (with_model known m) (k + 1) ms) h.1) in
     omega (arith, more)
 
-as_many : (all : Models) (atomics : ℕ) (ms : List ModelDecl) → length (nodes_from all atomics ms) ≡ length ms
-as_many all atomics [] = refl
-as_many all atomics (m ∷ ms) = ap suc (as_many all (atomics_after atomics m) ms)
+pub nodes_each : (all : Models) (atomics : ℕ) (ms : List ModelDecl) → length (nodes_from all atomics ms) ≡ length ms
+nodes_each all atomics [] = refl
+nodes_each all atomics (m ∷ ms) = ap suc (nodes_each all (atomics_after atomics m) ms)
 
 -- without a fault the nodes make a tree
 pub is_tree : (s : Syntax) → syntax_fault s ≡ None → IsTree (nodes_of s) (root_of s)
@@ -153,7 +153,7 @@ is_tree s h =
     let models = free_left (models_entries [] 0 s.models) (model_code all s.system ∷ rewards_entries all [] 0 s.rewards) free in
     let behind = free_right (models_entries [] 0 s.models) (model_code all s.system ∷ rewards_entries all [] 0 s.rewards) free in
     let few = models_free [] 0 s.models (omega arith) models in
-    let many = as_many all 0 s.models in
+    let many = nodes_each all 0 s.models in
     let root = number_below all [] all s.system (sym (nothing_behind all)) (not_false (is_known all s.system) (code_free 22 (not (is_known all s.system)) behind.0)) in
     let short = models_few [] s.models in
     record {

@@ -1,6 +1,5 @@
 -- There is one entry for each word that counts.
-use Rattle.std.proofs.Common.{◌≡◌, ℕ, suc, ◌+◌, ◌<◌, Bool, true, false, is_some, true≢false, List, [], ◌∷◌, ◌++◌, length, map, codes, Option, Some, None, nat_le, refl, sym, ap, subst, ◌∙◌, arith, append_assoc, length-append}
-use denote.Hole.Carrier
+use Rattle.std.proofs.Common.{◌≡◌, ℕ, suc, ◌+◌, ◌<◌, Bool, false, is_some, true≢false, List, [], ◌∷◌, ◌++◌, length, map, Option, Some, None, nat_le, refl, sym, ap, subst, ◌∙◌, arith, append_assoc, length-append}
 use Rattle.san_base.specs.declared.op.Op.TheVariants as op
 use Rattle.san_lex.specs.declared.sign.Keyword.TheVariants as keyword
 use Rattle.san_lex.specs.declared.sign.Mark.TheVariants as mark
@@ -38,16 +37,16 @@ use Rattle.san_text.specs.declared.syntax.SpanDecl.TheVariants as span
 use Rattle.san_text.specs.declared.syntax.TermDecl.{TermDecl}
 use Rattle.san_text.specs.declared.syntax.TermDecl.TheVariants as term
 use Rattle.san_text.specs.declared.syntax.Syntax.{Syntax}
-use Rattle.san_text.specs.Spelling.{spell_step, spelling, braced, else_words, stmt_words, stmts_words, body_words, stmt_step as spell_stmt, joined as all_words}
-use Rattle.san_text.specs.ActivityWords.{length_words, initial_words, place_words, number_words, arc_words, function_words, input_words, inputs_words, output_words, outputs_words, case_words, cases_words, entry_words, with_commas, dist_words, react_words, pair_words, timing_words, priority_words, timed_words, instant_words, act_by, act_words}
-use Rattle.san_text.specs.ModelWords.{places_words, acts_words, child_words, part_words, share_words, shown_words, model_words, span_words, term_words, reward_words, head_words, system_words, syntax_words}
+use Rattle.san_text.specs.Spelling.{spell_step, spelling, braced, else_words, stmt_words, stmts_words, stmt_step as spell_stmt, joined as all_words}
+use Rattle.san_text.specs.ActivityWords.{length_words, initial_words, number_words, arc_words, function_words, input_words, output_words, outputs_words, case_words, cases_words, entry_words, with_commas, dist_words, pair_words, timing_words, priority_words, act_by, act_words}
+use Rattle.san_text.specs.ModelWords.{places_words, acts_words, child_words, part_words, share_words, shown_words, model_words, span_words, term_words, reward_words, syntax_words}
 use Rattle.san_text.specs.Texts.{after_sign, counted_after, words_that_count, words_of}
 use Rattle.san_check.specs.declared.place.Place.{Place}
 use Rattle.san_check.specs.declared.walk.Fault.{Fault}
 use Rattle.san_check.specs.Tables.{Pairs, declared, all_paired}
 use Rattle.san_check.specs.Entries.{Entries, joined, first_fault}
 use Rattle.san_check.specs.Expressions.{Places, expr_step, first_entries, expr_entries, stmt_step, stmt_entries, stmts_entries}
-use Rattle.san_check.specs.Activities.{Acts, weight_entries, arc_entries, input_entries, output_entries, outputs_entries, case_entries, cases_entries, choice_entries, summed, table_entries, dist_entries, pair_entries, timing_entries, priority_entries, front_entries, act_entries}
+use Rattle.san_check.specs.Activities.{Acts, weight_entries, arc_entries, input_entries, output_entries, outputs_entries, case_entries, cases_entries, summed, table_entries, dist_entries, pair_entries, timing_entries, priority_entries, front_entries, act_entries}
 use Rattle.san_check.specs.Atomics.{length_entries, initial_entries, places_entries, with_place, counted, cells_of, all_places, acts_entries}
 use Rattle.san_check.specs.Compositions.{Models, Children, model_code, children_entries, with_child, all_children, parts_entries, first_place, shares_entries, with_share, shown_entries, with_shown, shown_by, model_entries, models_entries, with_model, all_models, known_as}
 use Rattle.san_check.specs.Rewards.{span_entries, is_at, term_entries, terms_entries, reward_entries, rewards_entries}

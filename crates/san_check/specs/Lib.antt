@@ -7,5 +7,15 @@ pub mod Compositions
 pub mod Rewards
 pub mod Texts
 pub mod Nodes
+pub mod Cells
+pub mod Formulas
+pub mod Actions
+pub mod Terms
+pub mod Nets
+pub mod Formed
+pub mod Spans
+pub mod Checked
+pub mod Composed
 pub mod Answers
 pub mod Examples
+pub mod MadeExamples

@@ -2,21 +2,31 @@
 //! at which one fails.
 #![tactic(auto)]
 
+mod actions;
 mod acts;
 mod atomics;
+mod cells;
 mod compositions;
+mod elements;
 mod exprs;
+mod formulas;
 mod laws;
+mod model;
 mod models;
+mod nets;
 mod nodes;
 mod place;
 mod rewards;
+mod spans;
 mod table;
+mod terms;
 mod text;
 mod tree;
 mod walk;
 
-pub use laws::{entries_are_of_words, places_stay_apart, sharing_keeps_places};
-pub use text::first_fault;
-pub use tree::{CheckFault, tree_of};
-pub use walk::Fault;
+pub use laws::{
+    atomics_are_accepted, entries_are_of_words, parsed_is_formed, places_stay_apart,
+    sharing_keeps_places,
+};
+pub use model::{Model, check};
+pub use tree::CheckFault;

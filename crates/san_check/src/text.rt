@@ -202,11 +202,3 @@ pub fn walked<'a>(
     let models = walk_syntax(alloc, &mut walk, syntax)?;
     Ok((walk.fault, models))
 }
-
-/// The first word at which a code of the checks holds, with the least code there. Own rules.
-pub fn first_fault(alloc: Global, syntax: &Syntax) -> Result<Option<Fault>, NoMemory>
-    ensures { IfOk result (λ fault. fault ≡ option_map told (syntax_fault syntax.now)) }
-{
-    let (fault, _) = walked(alloc, syntax)?;
-    Ok(fault)
-}

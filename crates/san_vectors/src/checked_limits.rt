@@ -1,10 +1,7 @@
-//! Limits of a model's parts, and the tree of a model that passes the checks; all worked out by
-//! hand.
+//! Limits of a model's parts, worked out by hand.
 
 use crate::checked::fault;
-use san_check::{CheckFault, tree_of};
-use san_text::parse;
-use san_tree::Home;
+use san_check::CheckFault;
 use std::alloc::Global;
 use std::test::Fail;
 
@@ -110,10 +107,8 @@ fn counts_the_parts(rt: HostRuntime) -> Result<(), Fail> {
     for (row, (head, before, behind, tail, most, code, place)) in LIMITS.iter().enumerate() {
         assert!(rt; *most < 2000);
         let accepted = text_of(rt.alloc(), head, before, behind, *most, tail)?;
-        assert!(rt; accepted.len() < 100000);
         assert_eq!(rt; fault(rt.alloc(), &accepted), (0, 0), "row {row}");
         let refused = text_of(rt.alloc(), head, before, behind, *most + 1, tail)?;
-        assert!(rt; refused.len() < 100000);
         assert_eq!(rt; fault(rt.alloc(), &refused), (*code, *place), "row {row}");
     }
     Ok(())
@@ -144,30 +139,11 @@ fn shares_of(alloc: Global, shares: u32) -> Result<Vec<u8>, Fail> {
 #[test]
 fn counts_the_shares(rt: HostRuntime) -> Result<(), Fail> {
     let accepted = shares_of(rt.alloc(), 1024)?;
-    assert!(rt; accepted.len() < 100000);
     assert_eq!(rt; fault(rt.alloc(), &accepted), (0, 0));
     let refused = shares_of(rt.alloc(), 1025)?;
-    assert!(rt; refused.len() < 100000);
     assert_eq!(rt; fault(rt.alloc(), &refused), (44, 25069));
     let refused = shares_of(rt.alloc(), 1026)?;
-    assert!(rt; refused.len() < 100000);
     assert_eq!(rt; fault(rt.alloc(), &refused), (44, 25069));
-    Ok(())
-}
-
-/// The tree of three models: an atomic, two copies of it, and a join of both.
-#[test]
-fn makes_the_tree(rt: HostRuntime) -> Result<(), Fail> {
-    let text =
-        b"san 1; atomic x { place p; place q; } rep r = x times 2 { share q; } join j { child a = x; child b = r; share s = b.q, a.p; } system j;";
-    let parsed = parse(rt.alloc(), text).expect(&rt, "parse");
-    let tree = tree_of(rt.alloc(), &parsed.syntax).expect(&rt, "tree");
-    assert_eq!(rt; tree.root, 2);
-    assert_eq!(rt; tree.leaves(), 3);
-    assert_eq!(rt; tree.home(&[0], 0), Home { depth: 0, place: 0 });
-    assert_eq!(rt; tree.home(&[0], 1), Home { depth: 1, place: 1 });
-    assert_eq!(rt; tree.home(&[1, 1], 1), Home { depth: 0, place: 0 });
-    assert_eq!(rt; tree.home(&[1, 0], 0), Home { depth: 2, place: 0 });
     Ok(())
 }
 

@@ -11,6 +11,8 @@ mod checked;
 #[cfg(test)]
 mod checked_limits;
 #[cfg(test)]
+mod checked_models;
+#[cfg(test)]
 mod draws;
 #[cfg(test)]
 mod first_form;
