@@ -1,0 +1,14 @@
+pub mod HomeLemmas
+pub mod PropLemmas
+pub mod SightLemmas
+pub mod ListLemmas
+pub mod TreePaths
+pub mod TextLemmas
+pub mod PartLemmas
+pub mod NumberLemmas
+pub mod LeafLemmas
+pub mod ValueLemmas
+pub mod NetworkLemmas
+pub mod CodeLemmas
+pub mod KnownLemmas
+pub mod AssembledLemmas

@@ -1,0 +1,20 @@
+-- Which limit of a network a model passes.
+use Rattle.std.specs.Prelude.{ℕ, ◌≡◌, nat_lt, if◌then◌else◌, Option, None, Some}
+use Rattle.san_check.specs.declared.model.Model.{Model}
+use Rattle.san_flat.specs.Networks.{act_count, leaf_count, place_count}
+use Rattle.san_flat.specs.declared.flattening.FlatFault.{FlatFault}
+use Rattle.san_flat.specs.declared.flattening.FlatFault.TheVariants as fault
+
+-- the first limit that such numbers of leaves, places and activities pass
+abbrev pub first_passed : ℕ → ℕ → ℕ → Option FlatFault
+first_passed leaves places acts = if nat_lt 4096 leaves then Some fault.Leaves else if nat_lt 65536 places then Some fault.Places else if nat_lt 65536 acts then Some fault.Acts else None
+
+abbrev pub limit_passed : Model → Option FlatFault
+limit_passed m = first_passed (leaf_count m) (place_count m) (act_count m)
+
+-- a fault other than want of memory is the first limit that is passed
+abbrev pub Refuses : FlatFault → Model → Type 0
+Refuses fault.Leaves m = limit_passed m ≡ Some fault.Leaves
+Refuses fault.Places m = limit_passed m ≡ Some fault.Places
+Refuses fault.Acts m = limit_passed m ≡ Some fault.Acts
+Refuses fault.NoMemory m = Unit {0}

@@ -1,0 +1,104 @@
+ghost use Rattle.std.specs.Prelude.{true, All, ◌≡◌, ◌≤◌, ◌<◌, ◌∷◌, ◌++◌, ℕ, List, [], length, map, IfOk, OnOk, min, ◌+◌, slice_index, slice_set};
+ghost use Rattle.san_flat.specs.Homes.{Home, homes_in, same, seen_as};
+ghost use Rattle.san_flat.specs.Networks.{homes_from, values_from, values_in};
+ghost use Rattle.san_flat.specs.Sightings.{IsEven, IsSeen, Sees, SeesAll};
+ghost use Rattle.san_tree.specs.Instances.{IsWithin};
+
+use crate::home::{CellHome, home_of};
+use crate::leaf::{cells_of, initial_of};
+use indexmap::IndexSet;
+use san_base::NoMemory;
+use san_check::Model;
+use san_tree::Instance;
+use std::alloc::Global;
+
+/// The different homes of the cells that were seen, with how often each was, up to twice, and the
+/// initial value of its first cell.
+#[derive(Drop)]
+pub struct Seen {
+    pub homes: IndexSet<CellHome>,
+    pub counts: Vec<u8>,
+    pub values: Vec<u32>,
+}
+
+/// One more is counted at a position, up to twice.
+fn count_again(counts: &mut Vec<u8>, at: usize)
+    ensures { counts.new.items ≡ slice_set counts.old.items at (min (slice_index counts.old.items at) 1 + 1) }
+{
+    if at < counts.len() {
+        counts[at] = counts[at].min(1) + 1;
+    }
+}
+
+/// One more cell is noted.
+fn note(seen: &mut Seen, home: CellHome, value: u32) -> Result<(), NoMemory>
+    ensures { OnOk result ((homes : List Home) (initial : List ℕ) → IsSeen homes initial seen.old
+        → IsSeen (homes ++ seen_as home ∷ []) (initial ++ value ∷ []) seen.new) }
+{
+    let (at, new) = seen.homes.insert_full(home)?;
+    if new {
+        seen.counts.push(1)?;
+        seen.values.push(value)?;
+        Ok(())
+    } else {
+        count_again(&mut seen.counts, at);
+        Ok(())
+    }
+}
+
+/// One more cell is seen. Answers whether the homes are still no more than a network has places.
+#[tactic(auto, using(crate::proofs::SightLemmas::sees))]
+fn see(seen: &mut Seen, home: CellHome, value: u32) -> Result<bool, NoMemory>
+    ensures { IfOk result (λ fits. (homes : List Home) (initial : List ℕ) → IsSeen homes initial seen.old
+        → Sees fits (homes ++ seen_as home ∷ []) (initial ++ value ∷ []) seen.new) }
+{
+    note(seen, home, value)?;
+    Ok(seen.homes.len() <= 65536)
+}
+
+/// The cells of a leaf are seen. Answers whether the homes are still no more than a network has
+/// places.
+fn see_leaf(
+    alloc: Global,
+    seen: &mut Seen,
+    model: &Model,
+    leaf: &Instance,
+) -> Result<bool, NoMemory>
+    requires short { IsWithin 255 leaf.now }
+    requires even { IsEven model.now leaf.now }
+    ensures { IfOk result (λ fits. (homes : List Home) (initial : List ℕ)
+        → Sees true homes initial seen.old → Sees fits (homes ++ homes_in model.now.tree.nodes
+        model.now.tree.root model.now.cells leaf.now) (initial ++ values_in model.now.atomics
+        leaf.now) seen.new) }
+{
+    let cells = cells_of(model, leaf.atomic);
+    let values = initial_of(model, leaf.atomic);
+    'cells: for (at, cell) in cells.iter().enumerate() {
+        let home = home_of(alloc, model, leaf, *cell)?;
+        if !see(seen, home, values[at])? {
+            return Ok(false);
+        }
+    }
+    Ok(true)
+}
+
+/// The cells of all leaves are seen, in order, or none where a network has fewer places than there
+/// are homes.
+pub fn see_all(alloc: Global, model: &Model, leaves: &[Instance]) -> Result<Option<Seen>, NoMemory>
+    requires short { All (IsWithin 255) leaves.now }
+    requires even { All (IsEven model.now) leaves.now }
+    ensures { IfOk result (λ seen. SeesAll seen (homes_from model.now leaves.now) (values_from
+        model.now leaves.now)) }
+{
+    let mut seen = Seen {
+        homes: IndexSet::new(alloc),
+        counts: Vec::new(alloc),
+        values: Vec::new(alloc),
+    };
+    'leaves: for leaf in leaves {
+        if !see_leaf(alloc, &mut seen, model, leaf)? {
+            return Ok(None);
+        }
+    }
+    Ok(Some(seen))
+}
