@@ -17,6 +17,8 @@ mod draws;
 #[cfg(test)]
 mod first_form;
 #[cfg(test)]
+mod flattened;
+#[cfg(test)]
 mod grammar;
 #[cfg(test)]
 mod network;

@@ -1,0 +1,186 @@
+//! The networks of models, leaf by leaf, and the models that are too large for one; all worked out by
+//! hand.
+
+use san_base::{LeafId, PlaceId};
+use san_check::check;
+use san_flat::{FlatFault, flatten};
+use san_net::{Flat, Slot};
+use san_text::parse;
+use std::alloc::Global;
+use std::test::Fail;
+
+/// A text and its network: for each leaf a line with its path, the number of its first activity and
+/// the places of its cells, the shared ones in brackets; then the places' initial values.
+const NETWORKS: [(&[u8], &str); 6] = [
+    (
+        b"san 1;\natomic low { place s; place d = 1; instant grab { gate s == 1 && d == 1 do { d = 0; } } }\natomic high {\n  place s; place n; place once = 1;\n  timed go { in once; delay det 2; do { s = 1; n = 1; } }\n  instant own { in n; }\n}\njoin j { child l = low; child h = high; share s = l.s, h.s; }\nsystem j;\n",
+        "j.l 0: (0) 1\nj.h 1: (0) 2 3\n0 1 0 1\n",
+    ),
+    (
+        b"san 1;\natomic x {\n  place p; place left = 1;\n  timed job { gate 1; delay det 5; react 1, p == 1; }\n  timed poke { in left; delay det 3; do { p = 1; } }\n}\natomic t { timed tick { delay det 2; } }\njoin j { child a = x; child b = t; }\nsystem j;\n",
+        "j.a 0: 0 1\nj.b 2:\n0 1\n",
+    ),
+    (
+        b"san 1;\natomic cpu { place up = 1; place failed; timed fail { in up; delay det 5; out failed; } }\natomic crew { place failed; timed fix { in failed; delay det 2; } }\nrep cpus = cpu times 2 { share failed; }\njoin sys {\n  child cpus = cpus; child repair = crew;\n  share failed = cpus.failed, repair.failed;\n}\nsystem sys;\nreward lost on cpu over 0 20 { rate 1 - up; impulse fail 10; }\nreward queue on crew mean 0 20 { rate failed; }\n",
+        "sys.cpus[0] 0: 1 (0)\nsys.cpus[1] 1: 2 (0)\nsys.repair 2: (0)\n0 1 1\n",
+    ),
+    (
+        b"san 1;\natomic x { place p = 1; place q; place r = 2; timed t { delay det 1; } }\nrep inner = x times 2 { share p; share q; }\njoin mid { child a = inner; child b = x; share s = a.p, b.p; share u = a.q; share w = b.q; }\nrep outer = mid times 2 { share s; share w; }\nsystem outer;\n",
+        "outer[0].a[0] 0: (0) (1) 4\nouter[0].a[1] 1: (0) (1) 5\nouter[0].b 2: (0) (2) 6\nouter[1].a[0] 3: (0) (3) 7\nouter[1].a[1] 4: (0) (3) 8\nouter[1].b 5: (0) (2) 9\n1 0 0 0 2 2 2 2 2 2\n",
+    ),
+    (
+        b"san 3; atomic x { place q[2] = 5; place p; } rep r = x times 2 { share q; } system r;",
+        "r[0] 0: (0) (1) 2\nr[1] 0: (0) (1) 3\n5 5 0 0\n",
+    ),
+    (b"san 1; atomic x { place p = 7; } system x;", "x 0: 0\n7\n"),
+];
+
+/// The network of a text, or why it has none; nothing where the text isn't a model's.
+#[tactic(auto, using(crate::proofs::ReadLemmas::read))]
+fn network(alloc: Global, text: &[u8]) -> Option<Result<Flat, FlatFault>> {
+    if text.len() > 67108864 {
+        return None;
+    }
+    match parse(alloc, text) {
+        Ok(parsed) => match check(alloc, &parsed.syntax) {
+            Ok(model) => Some(flatten(alloc, &model)),
+            Err(_) => None,
+        },
+        Err(_) => None,
+    }
+}
+
+fn push_slot(alloc: Global, told: &mut Vec<u8>, slot: Slot) -> Result<(), Fail> {
+    let text = match slot {
+        Slot::Private(place) => format!(in alloc; " {}", place.0)?,
+        Slot::Shared(place) => format!(in alloc; " ({})", place.0)?,
+    };
+    told.extend_from_slice(text.as_bytes())?;
+    Ok(())
+}
+
+fn push_leaf(alloc: Global, told: &mut Vec<u8>, flat: &Flat, leaf: u32) -> Result<(), Fail> {
+    if leaf < flat.leaves() {
+        told.extend_from_slice(flat.path(LeafId(leaf)))?;
+        let part = flat.part(LeafId(leaf)).get();
+        told.extend_from_slice(format!(in alloc; " {}:", part.first.0)?.as_bytes())?;
+        for slot in part.slots.as_slice() {
+            push_slot(alloc, told, *slot)?;
+        }
+        told.push(b'\n')?;
+    }
+    Ok(())
+}
+
+fn push_initial(alloc: Global, told: &mut Vec<u8>, flat: &Flat) -> Result<(), Fail> {
+    for place in 0..flat.places() {
+        if place > 0 {
+            told.push(b' ')?;
+        }
+        let value = flat.initial(PlaceId(place));
+        told.extend_from_slice(format!(in alloc; "{value}")?.as_bytes())?;
+    }
+    told.push(b'\n')?;
+    Ok(())
+}
+
+fn told(alloc: Global, flat: &Flat) -> Result<Vec<u8>, Fail> {
+    let mut told = Vec::new(alloc);
+    for leaf in 0..flat.leaves() {
+        push_leaf(alloc, &mut told, flat, leaf)?;
+    }
+    push_initial(alloc, &mut told, flat)?;
+    Ok(told)
+}
+
+#[test]
+fn tells_the_networks(rt: HostRuntime) -> Result<(), Fail> {
+    for (row, (text, want)) in NETWORKS.iter().enumerate() {
+        let made = network(rt.alloc(), text).expect(&rt, "model");
+        let flat = made.expect(&rt, "network");
+        let lines = told(rt.alloc(), &flat)?;
+        assert_eq!(rt; lines.as_slice(), want.as_bytes(), "row {row}");
+    }
+    Ok(())
+}
+
+/// An atomic of an array of so many cells and so many activities, so many copies of it, and beside
+/// them an atomic with one place.
+fn copies_of(
+    alloc: Global,
+    cells: u32,
+    acts: u32,
+    times: u32,
+    more: bool,
+) -> Result<Vec<u8>, Fail> {
+    let mut text = Vec::new(alloc);
+    text.extend_from_slice(b"san 3; atomic one { place p; } atomic a { ")?;
+    if cells > 0 {
+        text.extend_from_slice(format!(in alloc; "place q[{cells}]; ")?.as_bytes())?;
+    }
+    for act in 0..acts {
+        text.extend_from_slice(format!(in alloc; "instant t{act} {{ }} ")?.as_bytes())?;
+    }
+    text.extend_from_slice(format!(in alloc; "}} rep r = a times {times} {{ }} ")?.as_bytes())?;
+    text.extend_from_slice(b"join j { child r = r; child s = one; } ")?;
+    text.extend_from_slice(if more { b"system j;" } else { b"system r;" })?;
+    Ok(text)
+}
+
+/// Cells, activities, copies, whether the other atomic stands beside them, and the answer: no fault,
+/// or the least limit that is passed.
+const SIZES: [(u32, u32, u32, bool, Option<FlatFault>); 9] = [
+    (0, 0, 4096, false, None),
+    (0, 0, 4096, true, Some(FlatFault::Leaves)),
+    (17, 0, 4096, true, Some(FlatFault::Leaves)),
+    (16, 0, 4096, false, None),
+    (256, 0, 256, false, None),
+    (256, 0, 256, true, Some(FlatFault::Places)),
+    (256, 256, 257, false, Some(FlatFault::Places)),
+    (0, 256, 256, false, None),
+    (1, 256, 257, false, Some(FlatFault::Acts)),
+];
+
+#[test]
+fn keeps_the_limits(rt: HostRuntime) -> Result<(), Fail> {
+    for (row, (cells, acts, times, more, want)) in SIZES.iter().enumerate() {
+        assert!(rt; *acts < 1000);
+        let text = copies_of(rt.alloc(), *cells, *acts, *times, *more)?;
+        let made = network(rt.alloc(), &text).expect(&rt, "model");
+        assert_eq!(rt; made.err(), *want, "row {row}");
+    }
+    Ok(())
+}
+
+/// Joins of two of the one before name nothing at all more often than any run could count.
+#[test]
+fn has_no_leaf(rt: HostRuntime) -> Result<(), Fail> {
+    let mut text = Vec::new(rt.alloc());
+    text.extend_from_slice(b"san 1; join k0 { } ")?;
+    for k in 1..61u32 {
+        let below = k - 1;
+        let join = format!(in rt.alloc();
+            "join k{k} {{ child a = k{below}; child b = k{below}; }} "
+        )?;
+        text.extend_from_slice(join.as_bytes())?;
+    }
+    text.extend_from_slice(b"system k60;")?;
+    let made = network(rt.alloc(), &text).expect(&rt, "model");
+    let flat = made.expect(&rt, "network");
+    assert_eq!(rt; (flat.leaves(), flat.places(), flat.acts()), (0, 0, 0));
+    Ok(())
+}
+
+/// Each fault's text is its name.
+#[test]
+fn names_the_faults(rt: HostRuntime) -> Result<(), Fail> {
+    for (fault, name) in [
+        (FlatFault::Leaves, "Leaves"),
+        (FlatFault::Places, "Places"),
+        (FlatFault::Acts, "Acts"),
+        (FlatFault::NoMemory, "NoMemory"),
+    ] {
+        assert_eq!(rt; format!(in rt.alloc(); "{fault}")?.as_str(), name);
+    }
+    Ok(())
+}
