@@ -19,7 +19,10 @@ pub mod RangeLemmas
 pub mod RunningLemmas
 pub mod SteppingLemmas
 pub mod OpeningLemmas
+pub mod FlagLemmas
+pub mod TouchLemmas
 pub mod OpenLemmas
 pub mod WithinLemmas
+pub mod KnownLemmas
 pub mod RunLemmas
 pub mod ReachLemmas

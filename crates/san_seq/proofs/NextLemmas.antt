@@ -1,9 +1,10 @@
 -- A leaf's first instantaneous activity, found over its view.
-use Rattle.std.proofs.Common.{ℕ, zero, suc, ◌+◌, ◌<◌, ◌≤◌, ◌≡◌, ◌∙◌, ap, sym, refl, subst, arith, List, [], ◌∷◌, length, map, drop, Option, Some, Ok, IsTrue, unwrap_or}
+use Rattle.std.proofs.Common.{ℕ, zero, suc, ◌+◌, ◌-◌, ◌<◌, ◌≤◌, ◌≡◌, ◌∙◌, ap, sym, refl, subst, arith, List, [], ◌∷◌, length, map, drop, Option, Some, Ok, IsTrue, unwrap_or}
 use Rattle.std.specs.Option.{option_map}
 use Rattle.std.specs.Prelude.{slice_get}
 use Rattle.std.proofs.lemmas.List.{length-map}
 use Rattle.san_expr.specs.Meets.{Evaluates}
+use Rattle.san_law.specs.Net.{Nothing}
 use Rattle.san_law.specs.Next as law
 use Rattle.san_law.specs.Next.{found_at}
 use Rattle.san_law.specs.State.{gather}
@@ -48,7 +49,7 @@ cut (p ∷ ps) zero h = (p, refl, refl)
 cut (p ∷ ps) (suc j) h = cut ps j (omega (arith, h))
 
 -- a leaf, and then those after it
-one_leaf : (ps : List Part) (m : List ℕ) (j : ℕ) → j < length ps → first_from j m (drop j ps) ≡ found_at j (first_by m (slice_get ps j)) (first_from (j + 1) m (drop (j + 1) ps))
+pub one_leaf : (ps : List Part) (m : List ℕ) (j : ℕ) → j < length ps → first_from j m (drop j ps) ≡ found_at j (first_by m (slice_get ps j)) (first_from (j + 1) m (drop (j + 1) ps))
 unfolding first_from
 one_leaf ps m j h =
     let at = cut ps j h in
@@ -73,3 +74,17 @@ none_left ps m j h = ap (first_from j m) (drop_all ps j h)
     drop_all [] (suc k) h = refl
     drop_all (q ∷ qs) zero h = absurd (omega (arith, h))
     drop_all (q ∷ qs) (suc k) h = drop_all qs k (omega (arith, h))
+
+-- leaves that have nothing are passed over
+pub skipped : (ps : List Part) (m : List ℕ) (n from : ℕ) → from + n ≤ length ps → ((i : ℕ) → from ≤ i → i < from + n → first_by m (slice_get ps i) ≡ Nothing) → first_from from m (drop from ps) ≡ first_from (from + n) m (drop (from + n) ps)
+skipped ps m zero from h none = let same : from ≡ from + 0 = omega arith in ap (λ (k : ℕ). first_from k m (drop k ps)) same
+skipped ps m (suc n) from h none =
+    let on : (from + 1) + n ≡ from + suc n = omega arith in
+    one_leaf ps m from (omega (arith, h)) ∙ ap (λ f. found_at from f (first_from (from + 1) m (drop (from + 1) ps))) (none from (omega arith) (omega arith))
+    ∙ skipped ps m n (from + 1) (omega (arith, h)) (λ i l u. none i (omega (arith, l)) (omega (arith, u)))
+    ∙ ap (λ (k : ℕ). first_from k m (drop k ps)) on
+
+pub skipped_to : (ps : List Part) (m : List ℕ) (from j : ℕ) → from ≤ j → j ≤ length ps → ((i : ℕ) → from ≤ i → i < j → first_by m (slice_get ps i) ≡ Nothing) → first_from from m (drop from ps) ≡ first_from j m (drop j ps)
+skipped_to ps m from j low h none =
+    let at : from + (j - from) ≡ j = omega (arith, low) in
+    skipped ps m (j - from) from (omega (arith, h, low)) (λ i l u. none i l (omega (arith, u, low))) ∙ ap (λ (k : ℕ). first_from k m (drop k ps)) at

@@ -5,7 +5,6 @@ use Rattle.san_law.specs.Net.{Broken, Enabled, Found, Net, Nothing, Row, Timer, 
 use Rattle.san_law.specs.Next.{Completes, Next, Stable, TrapsAt, found_at, last_first, next_instant, scan, next_of}
 use Rattle.san_law.specs.Renewal.{Due, least_from, sooner}
 use Rattle.san_law.specs.State.{State, gather, slots_of}
-use Rattle.std.specs.Prelude.{slice_get}
 use Rattle.std.proofs.lemmas.Bool.{cases_lt}
 use Rattle.std.proofs.lemmas.List.{length-map}
 use Rattle.san_law.specs.Network.{Limits as Bounds, part_at}
@@ -14,7 +13,6 @@ use Rattle.san_net.specs.Laid.{IsNetwork}
 use Rattle.san_net.specs.Leaf.{activities_from, leaf_of}
 use Rattle.san_net.specs.Network.{Network, net_of, network_in}
 use Rattle.san_net.specs.declared.atomic.ImpulseTerm.{ImpulseTerm}
-use Rattle.san_net.specs.declared.part.Part as part
 use Rattle.san_seq.specs.Rows.{AreRows, row_at}
 use Rattle.san_seq.specs.Telling.{IsActOf}
 use Rattle.san_seq.proofs.NextLemmas.{cut}

@@ -1,30 +1,28 @@
 -- Events come in order of time, with the impulses of the markings that they reach.
-use Rattle.std.proofs.Common.{ℕ, zero, suc, ◌+◌, ◌≤◌, ◌<◌, ◌≡◌, ◌∙◌, ap, sym, refl, subst, arith, List, [], ◌∷◌, length, map, Option, Some, None, Result, Ok, Err, Bool, true, false, nat_le, nat_lt, cond, slice_set, slice_index, slice_index_or}
+use Rattle.std.proofs.Common.{ℕ, zero, suc, ◌+◌, ◌≤◌, ◌≡◌, ◌∙◌, ap, sym, refl, subst, arith, List, [], ◌∷◌, length, map, Option, Some, None, Result, Ok, Err, Bool, true, false, nat_le, cond, slice_set, slice_index, slice_index_or}
 use Rattle.std.proofs.lemmas.Bool.{leb-true}
-use Rattle.std.proofs.lemmas.List.{get_or-map, length-map}
+use Rattle.std.proofs.lemmas.List.{length-map}
 use Rattle.san_base.specs.declared.ending.Event.{Event}
 use Rattle.san_base.specs.declared.ending.Ending.{Ending}
 use Rattle.san_base.specs.declared.ending.Trap.{Trap}
 use Rattle.san_law.proofs.Least.{before_late, least_is_before}
 use Rattle.san_law.proofs.Places.{gather_scatter}
 use Rattle.san_law.proofs.Timers.{dropped_late, least_like}
-use Rattle.san_law.specs.Activity.{Activity, Effected, Part, activity_of, case_stream, completed, done_by}
+use Rattle.san_law.specs.Activity.{Effected, Part, activity_of, case_stream, completed, done_by}
 use Rattle.san_law.specs.First.{Before}
 use Rattle.san_law.specs.Lawful.{IsLaid, IsLate, IsLawful}
-use Rattle.san_law.specs.Net.{Done, Faulty, Fresh, Impulse, Local, Net, Renewing, Row, least_timer, no_row, without_timer}
+use Rattle.san_law.specs.Net.{Done, Faulty, Fresh, Local, Net, Renewing, Row, least_timer, without_timer}
 use Rattle.san_law.specs.Network.{Limits, part_at}
 use Rattle.san_law.specs.Next.{Completes, Next, Stable, TrapsAt, next_instant}
 use Rattle.san_law.specs.Renewal.{AllFresh, Due, FaultAt, Renewal, and_rest, least_from, renewed_at, renewed_from, renewed_then}
-use Rattle.san_law.specs.State.{State, blank_row, blank_rows, gather, local_of, opening_state, repeated, scatter, slots_of}
-use Rattle.san_law.specs.State as state
+use Rattle.san_law.specs.State.{State, gather, local_of, opening_state, scatter, slots_of}
 use Rattle.san_law.specs.Step as law
 use Rattle.san_law.specs.Step.{End, Event as LawEvent, Happened, Over, Stepped, at_due, at_next, at_rest, complete, count_limit, event_of, fire, fired, limit_at, step, unless_over, with_local}
 use Rattle.san_law.specs.Trajectory.{Runs}
-use Rattle.san_net.specs.Laid.{IsNetwork}
 use Rattle.san_net.specs.Network.{Network, net_of, network_in}
 use Rattle.san_net.proofs.LaidLemmas.{laid, lawful}
-use Rattle.san_seq.specs.FlatRun.{Done as IsOver, Going, On, Run, after_step, left_by, net_in, step_of, stepped}
-use Rattle.san_seq.specs.Reaching.{EventsAreInTime, EventsAreTheLaws, IsInTime, IsTheLaws, impulses_at}
+use Rattle.san_seq.specs.FlatRun.{Going, On, Run, left_by, net_in, stepped}
+use Rattle.san_seq.specs.Reaching.{EventsAreInTime, EventsAreTheLaws, IsInTime, impulses_at}
 use Rattle.san_seq.specs.Rows.{row_at}
 use Rattle.san_seq.specs.Telling.{event_in, told_of}
 use Rattle.san_seq.proofs.RunningLemmas.{scattered}

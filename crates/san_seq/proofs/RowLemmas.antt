@@ -1,5 +1,5 @@
 -- The renewal of the rows of all leaves, one after another.
-use Rattle.std.proofs.Common.{ℕ, zero, suc, ◌+◌, ◌<◌, ◌≤◌, ◌≡◌, ◌≢◌, ◌∙◌, ap, sym, refl, subst, arith, List, [], ◌∷◌, ◌++◌, length, take, drop, Option, Some, Err, All, slice_index_or, slice_set, ◌⊎◌, inl, inr}
+use Rattle.std.proofs.Common.{ℕ, zero, suc, ◌+◌, ◌-◌, ◌<◌, ◌≤◌, ◌≡◌, ◌≢◌, ◌∙◌, ap, sym, refl, subst, arith, Bool, false, List, [], ◌∷◌, ◌++◌, length, take, drop, Option, Some, Err, All, slice_index_or, slice_set, ◌⊎◌, inl, inr}
 use Rattle.std.specs.Prelude.{slice_get}
 use Rattle.std.proofs.lemmas.List.Sums.{sum_by-cons}
 use Rattle.std.proofs.lemmas.Bool.{cases_eq}
@@ -13,8 +13,10 @@ use Rattle.san_law.specs.State.{State, gather}
 use Rattle.san_net.specs.Laid.{IsNetwork, acts_of, places_of}
 use Rattle.san_net.specs.Network.{Network, net_of, network_in}
 use Rattle.san_net.specs.declared.part.Part.{Part}
+use Rattle.san_seq.specs.Known.{AreFresh}
 use Rattle.san_seq.specs.Renewals.{renewed_part, renewing_by}
 use Rattle.san_seq.specs.Rows.{AreDrawn, IsLike, row_at}
+use Rattle.san_seq.proofs.NextLemmas.{cut}
 use Rattle.san_seq.proofs.PartLemmas.{part_is, places_are}
 use Rattle.san_seq.proofs.RenewalLemmas.{all_taken, appended, ended, from_here, set_front, set_rest}
 
@@ -113,3 +115,35 @@ module _ (old now : List Row) (j : ℕ) (r d new : Row) (h : j < length now) (is
 
 pub left_set : (old now : List Row) (j : ℕ) (new : Row) → ((i : ℕ) → j ≤ i → row_at now i ≡ row_at old i) → (i : ℕ) → j + 1 ≤ i → row_at (slice_set now j new) i ≡ row_at old i
 left_set old now j new left i b = get_or-set_other now j i new no_row (λ e. absurd (omega (arith, b, e))) ∙ left i (omega (arith, b))
+
+same_row : (rows : List Row) (j : ℕ) → slice_set rows j (row_at rows j) ≡ rows
+same_row [] j = refl
+same_row (r ∷ rs) zero = refl
+same_row (r ∷ rs) (suc j) = ap (λ (xs : List Row). r ∷ xs) (same_row rs j)
+
+-- rows that renewal leaves as they are
+rows_skipped : (net : Net) (s : State) (rows : List Row) (n from : ℕ) → from + n ≤ length rows → ((i : ℕ) → from ≤ i → i < from + n → renewed_at net s i (row_at rows i) ≡ Fresh (row_at rows i))
+    → in_front (take from rows) (renewed_from net s from (drop from rows)) ≡ in_front (take (from + n) rows) (renewed_from net s (from + n) (drop (from + n) rows))
+rows_skipped net s rows zero from h stay = let same : from ≡ from + 0 = omega arith in ap (λ (k : ℕ). in_front (take k rows) (renewed_from net s k (drop k rows))) same
+rows_skipped net s rows (suc n) from h stay =
+    let on : (from + 1) + n ≡ from + suc n = omega arith in
+    fresh_at net s rows from (row_at rows from) no_row (row_at rows from) (omega (arith, h)) refl (sym (stay from (omega arith) (omega arith)))
+    ∙ ap (λ (rs : List Row). in_front (take (from + 1) rs) (renewed_from net s (from + 1) (drop (from + 1) rs))) (same_row rows from)
+    ∙ rows_skipped net s rows n (from + 1) (omega (arith, h)) (λ i l u. stay i (omega (arith, l)) (omega (arith, u)))
+    ∙ ap (λ (k : ℕ). in_front (take k rows) (renewed_from net s k (drop k rows))) on
+
+module _ (n : Network) (draw : ℕ → ℕ → ℕ) (limits : law.Limits) (s : State) (stale : List Bool) (time : ℕ) (stable m : List ℕ) (was rows : List Row) (from : ℕ)
+    (clock : s.time ≡ time) (seen : s.stable ≡ stable) (now : s.marking ≡ m) (fresh : AreFresh draw n.parts stale time stable m was) (sized : length rows ≡ length n.parts) (left : (i : ℕ) → from ≤ i → row_at rows i ≡ row_at was i) where
+  idle_at : (i : ℕ) → from ≤ i → i < length n.parts → slice_get stale i ≡ Some false → renewed_at (net_of n draw limits) s i (row_at rows i) ≡ Fresh (row_at rows i)
+  idle_at i l h down =
+      let part = cut n.parts i h in
+      subst (λ (r : Row). renewed_at (net_of n draw limits) s i r ≡ Fresh r) (sym (left i l))
+      (sym (part_renewed n draw limits s i part.0 time stable m (row_at was i) part.1 clock seen now) ∙ fresh i part.0 down part.1)
+
+  -- leaves that aren't stale are passed over
+  pub rows_skipped_to : (j : ℕ) → from ≤ j → j ≤ length rows → ((i : ℕ) → from ≤ i → i < j → slice_get stale i ≡ Some false)
+      → in_front (take from rows) (renewed_from (net_of n draw limits) s from (drop from rows)) ≡ in_front (take j rows) (renewed_from (net_of n draw limits) s j (drop j rows))
+  rows_skipped_to j low h down =
+      let at : from + (j - from) ≡ j = omega (arith, low) in
+      rows_skipped (net_of n draw limits) s rows (j - from) from (omega (arith, h, low)) (λ i l u. idle_at i l (omega (arith, u, low, h, sized)) (down i l (omega (arith, u, low))))
+      ∙ ap (λ (k : ℕ). in_front (take k rows) (renewed_from (net_of n draw limits) s k (drop k rows))) at

@@ -1,5 +1,5 @@
 -- A run and the rest of it.
-use Rattle.std.proofs.Common.{ℕ, suc, ◌+◌, ◌-◌, ◌<◌, ◌≤◌, ◌≡◌, ◌∙◌, ap, sym, refl, subst, arith, List, [], ◌∷◌, ◌++◌, length, map, Option, Some, None, Result, Ok, Err, append_assoc, append-nil}
+use Rattle.std.proofs.Common.{ℕ, suc, ◌+◌, ◌-◌, ◌<◌, ◌≤◌, ◌≡◌, ◌∙◌, ap, sym, refl, subst, arith, List, [], ◌∷◌, ◌++◌, Option, Some, None, Result, Ok, Err, append_assoc, append-nil}
 use Rattle.std.specs.Option.{option_map}
 use Rattle.san_base.specs.declared.ending.Ending.{Ending}
 use Rattle.san_base.specs.declared.ending.Event.{Event}
@@ -10,7 +10,7 @@ use Rattle.san_law.specs.State.{State}
 use Rattle.san_law.specs.Step as law
 use Rattle.san_law.specs.Trajectory as whole
 use Rattle.san_net.specs.Network.{Network}
-use Rattle.san_seq.specs.FlatRun.{Done, Going, HasRest, IsPrefix, On, Run, Tells, TellsPrefix, after_step, ahead, left_by, net_in, rest_by, rest_of, step_of, stepped, steps_at, steps_left}
+use Rattle.san_seq.specs.FlatRun.{Done, Going, HasRest, On, Run, TellsPrefix, after_step, ahead, left_by, net_in, rest_by, rest_of, step_of, stepped, steps_at, steps_left}
 use Rattle.san_seq.specs.Telling.{ending_in, event_in, told_of, trajectory_in}
 use Rattle.san_seq.specs.declared.steps.Trajectory.{Trajectory}
 

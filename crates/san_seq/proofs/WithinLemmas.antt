@@ -1,19 +1,18 @@
 -- What a step tells is of an activity of the network.
 use Rattle.std.proofs.Common.{ℕ, zero, suc, ◌+◌, ◌≤◌, ◌<◌, ◌≡◌, ◌∙◌, ap, sym, refl, subst, arith, List, [], ◌∷◌, length, map, Option, Some, None, Result, Ok, Err, Bool, true, false, nat_le, nat_lt, cond}
-use Rattle.std.specs.Prelude.{slice_get}
 use Rattle.std.proofs.lemmas.List.{length-map}
 use Rattle.san_base.specs.declared.ending.Trap.{Trap}
 use Rattle.san_base.specs.declared.limits.Limits.{Limits}
 use Rattle.san_law.specs.Activity.{Activity}
 use Rattle.san_law.specs.Activity as leaf
-use Rattle.san_law.specs.Clocks.{AllClocks, BadClock, Clock, Clocks, clock_and, clock_then, renewed_act, renewed_acts, row_of_clocks}
-use Rattle.san_law.specs.Net.{Done, Faulty, Fresh, Local, Net, Renewing, Row, Timer, least_timer}
+use Rattle.san_law.specs.Clocks.{AllClocks, BadClock, Clock, Clocks, clock_then, renewed_act, renewed_acts, row_of_clocks}
+use Rattle.san_law.specs.Net.{Done, Faulty, Fresh, Net, Renewing, Row, Timer, least_timer}
 use Rattle.san_law.specs.Network.{Limits as Bounds, part_at}
 use Rattle.san_law.specs.Next.{Completes, Next, Stable, TrapsAt, next_instant}
 use Rattle.san_law.specs.Renewal.{AllFresh, Due, FaultAt, Renewal, and_rest, least_from, renewed_from, renewed_then}
 use Rattle.san_law.specs.Renewal as law
 use Rattle.san_law.specs.State.{State, gather, local_of, slots_of}
-use Rattle.san_law.specs.Step.{End, Ending, Events, Happened, Over, Stepped, Trapped, Unstable, at_due, at_next, at_rest, complete, count_limit, fire, fired, limit_at, step, unless_over}
+use Rattle.san_law.specs.Step.{End, Ending, Events, Over, Stepped, Unstable, at_due, at_next, at_rest, complete, count_limit, fire, fired, limit_at, step, unless_over}
 use Rattle.san_net.specs.Leaf.{leaf_of}
 use Rattle.san_net.specs.Network.{Network, net_of, network_in}
 use Rattle.san_seq.specs.Rows.{AreRows, row_at}

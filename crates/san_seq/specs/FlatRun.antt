@@ -1,5 +1,5 @@
 -- A run of a network: the law's steps of its net, one after another.
-use Rattle.std.specs.Prelude.{ℕ, suc, ◌*◌, ◌+◌, ◌-◌, ◌≤◌, ◌<◌, ◌≡◌, ◌++◌, List, [], ◌∷◌, length, Option, Some, None, Result, Ok, Err}
+use Rattle.std.specs.Prelude.{ℕ, suc, ◌*◌, ◌+◌, ◌-◌, ◌≤◌, ◌≡◌, ◌++◌, Bool, List, [], ◌∷◌, length, Option, Some, None, Result, Ok, Err}
 use Rattle.std.specs.Option.{option_map}
 use Rattle.san_base.specs.declared.ending.Ending.{Ending}
 use Rattle.san_base.specs.declared.ending.Ending.TheVariants as ending
@@ -13,6 +13,7 @@ use Rattle.san_law.specs.Step as law
 use Rattle.san_law.specs.Trajectory as whole
 use Rattle.san_net.specs.Laid.{acts_of}
 use Rattle.san_net.specs.Network.{Network, net_of}
+use Rattle.san_seq.specs.Known.{AreIdle}
 use Rattle.san_seq.specs.Overs.{limits_in}
 use Rattle.san_seq.specs.Running.{IsRunning}
 use Rattle.san_seq.specs.Telling.{ending_in, told_of, trajectory_in}
@@ -100,20 +101,20 @@ TellsPrefix r = (t : Run) (es : List Event) → Tells r es t → IsPrefix r t es
 abbrev pub HasRest : Run → Type 0
 HasRest r = (t : Trajectory) × (rest_of r ≡ Some t)
 
--- what holds of a run between its steps
-abbrev pub IsGoing : Network → Limits → Going → Type 0
-IsGoing n limits (On s) = IsRunning n limits s
-IsGoing n limits (Done marking e) = Unit {0}
+-- what holds of a run between its steps; leaves whose flags are down have nothing to do
+abbrev pub IsGoing : Network → Limits → (ℕ → ℕ → ℕ) → List Bool → Going → Type 0
+IsGoing n limits draw stale (On s) = IsRunning n limits s × AreIdle n draw stale s
+IsGoing n limits draw stale (Done marking e) = Unit {0}
 
-pub record IsRun (n : Network) (limits : Limits) (streams : ℕ) (where_it_is : Going) : Type 0 where
+pub record IsRun (n : Network) (limits : Limits) (streams seed : ℕ) (stale : List Bool) (where_it_is : Going) : Type 0 where
   pub range : IsInRange limits
   pub draws : 2 * acts_of n.parts ≤ streams
-  pub going : IsGoing n limits where_it_is
+  pub going : IsGoing n limits (draw_of seed) stale where_it_is
 
 -- a run is held
-abbrev pub IsHeld : Network → Limits → ℕ → Option code.Going → Type 0
-IsHeld n limits streams None = ⊥
-IsHeld n limits streams (Some now) = IsRun n limits streams (going_in now)
+abbrev pub IsHeld : Network → Limits → ℕ → ℕ → List Bool → Option code.Going → Type 0
+IsHeld n limits streams seed stale None = ⊥
+IsHeld n limits streams seed stale (Some now) = IsRun n limits streams seed stale (going_in now)
 
 -- where a run that is held is
 abbrev pub going_of : Option code.Going → Going

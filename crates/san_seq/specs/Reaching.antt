@@ -1,5 +1,5 @@
 -- What the events of a run from its opening on say of its states.
-use Rattle.std.specs.Prelude.{ℕ, ◌≡◌, ◌≤◌, List, Result, Ok}
+use Rattle.std.specs.Prelude.{ℕ, ◌≡◌, ◌≤◌, List, Ok}
 use Rattle.san_base.specs.declared.ending.Event.{Event}
 use Rattle.san_law.specs.Activity.{activity_of}
 use Rattle.san_law.specs.Net.{Impulse, Net}

@@ -2,11 +2,15 @@ ghost use Rattle.std.specs.Prelude.{◌≡◌, ◌<◌, length};
 ghost use Rattle.san_law.specs.Net.{Net, without_timer};
 ghost use Rattle.san_law.specs.Step as law;
 ghost use Rattle.san_seq.specs.Dues.{due_in};
+ghost use Rattle.san_seq.specs.Known.{HaveSame};
 ghost use Rattle.san_seq.specs.Rows.{row_at};
 
 use crate::due::Due;
+use crate::flags::Flags;
 use crate::rows::Row;
 use crate::state::State;
+use crate::touching::caught_up;
+use san_net::Flat;
 
 /// A row without an activity's timer.
 pub(crate) fn drop_timer(row: &mut Row, act: u32)
@@ -17,20 +21,24 @@ pub(crate) fn drop_timer(row: &mut Row, act: u32)
 }
 
 /// The state at the time of a timer, without it: its marking is the last stable one, and the burst
-/// begins anew.
-pub(crate) fn fired(due: Due, state: State) -> State
+/// begins anew. No leaf is stale any more.
+pub(crate) fn fired(flat: &Flat, stale: &mut Flags, due: Due, state: State) -> State
     requires leaf { due.leaf.0 < length state.rows }
     requires act { due.act < length (row_at state.rows due.leaf.0).timers }
-    requires sized { length state.stable ≡ length state.marking }
-    ensures { (net : Net) → result ≡ law.fired net state state.rows (due_in due) }
+    requires flags { length stale.old ≡ length flat.now.parts }
+    requires marking { length state.marking ≡ length flat.now.initial }
+    requires stable { length state.stable ≡ length flat.now.initial }
+    requires same { HaveSame flat.now.parts stale.old state.stable state.marking }
+    ensures fired { (net : Net) → result ≡ law.fired net state state.rows (due_in due) }
+    ensures flags { length stale.new ≡ length stale.old }
 {
     let mut rows = state.rows;
     drop_timer(&mut rows[due.leaf.0 as usize], due.act);
-    let mut stable = state.stable;
-    stable.copy_from_slice(&state.marking);
+    let marking = state.marking;
+    let stable = caught_up(flat, stale, &marking, state.stable);
     State {
         time: due.time,
-        marking: state.marking,
+        marking,
         stable,
         rows,
         burst: 0,

@@ -6,6 +6,7 @@ ghost use Rattle.san_seq.specs.FlatRun as run;
 ghost use Rattle.san_seq.specs.Overs.{limits_in};
 ghost use Rattle.san_seq.specs.Telling.{stepped_of};
 
+use crate::flags::Flags;
 use crate::opening::{blanks, initial, tables};
 use crate::state::State;
 use crate::stepping::step;
@@ -32,6 +33,8 @@ pub struct Seq<'a> {
     tables: DelayTables,
     streams: Streams,
     limits: Limits,
+    /// For each leaf whether it may have to be looked at in the next step.
+    stale: Flags,
     /// Nothing while a step is taken.
     going: Option<Going>,
 }
@@ -47,7 +50,8 @@ impl<'a> Model for Seq<'a> {
 
     ghost view = { λ r. record { network = r.flat.now; seed = r.streams.seed; limits = r.limits; going = going_of r.going } };
 
-    ghost invariant = { λ r. IsHeld r.flat.now r.limits r.streams.streams r.going };
+    ghost invariant = { λ r. IsHeld r.flat.now r.limits r.streams.streams r.streams.seed
+        r.stale r.going };
 }
 
 /// What is told of a step, and where the run is after it.
@@ -56,18 +60,21 @@ fn stepped(
     tables: &DelayTables,
     streams: &mut Streams,
     limits: &Limits,
+    stale: &mut Flags,
     going: Going,
 ) -> (Result<Event, Ending>, Going)
-    requires run { run.IsRun flat.now limits.now streams.old.streams (run.going_in going) }
+    requires run { run.IsRun flat.now limits.now streams.old.streams streams.old.seed
+        stale.old (run.going_in going) }
     ensures step { (result.0, run.going_in result.1)
         ≡ run.stepped flat.now (net_of flat.now (draw_of streams.old.seed) (limits_in limits.now))
         (run.going_in going) }
-    ensures run { run.IsRun flat.now limits.now streams.old.streams (run.going_in result.1) }
+    ensures run { run.IsRun flat.now limits.now streams.old.streams streams.old.seed
+        stale.new (run.going_in result.1) }
     ensures streams { streams.new ≡ streams.old }
 {
     match going {
         Going::On(state) => {
-            let (told, left) = step(flat, tables, streams, limits, state);
+            let (told, left) = step(flat, tables, streams, limits, stale, state);
             match told {
                 Ok(completion) => (Ok(event_of(flat, completion)), Going::On(left)),
                 Err(ended) => {
@@ -116,11 +123,13 @@ impl<'a> Seq<'a> {
             last: None,
             count: 0,
         };
+        let stale = Flags::open(alloc, flat.leaves() as usize)?;
         Ok(Seq {
             flat,
             tables,
             streams,
             limits,
+            stale,
             going: Some(Going::On(state)),
         })
     }
@@ -137,6 +146,7 @@ impl<'a> Seq<'a> {
                     &self.tables,
                     &mut self.streams,
                     &self.limits,
+                    &mut self.stale,
                     going,
                 );
                 self.going = Some(left);

@@ -26,17 +26,20 @@ pub fn events_are_the_first()
 {}
 
 /// Every run has its trajectory.
+
 pub fn a_run_comes_to_its_end()
     ensures { (r : Run) → HasRest r }
 {}
 
 /// An event that a step tells is the law's.
+
 pub fn events_are_the_laws()
     ensures { (r : Run) → EventsAreTheLaws r }
 {}
 
 /// From its opening on a run's events come in order of time up to the horizon, with the impulses of
 /// the markings that they reach.
+
 pub fn events_come_in_time()
     ensures { (n : Network) → EventsAreInTime n }
 {}

@@ -7,6 +7,7 @@ mod completing;
 mod completion;
 mod due;
 mod firing;
+mod flags;
 mod flat_run;
 mod laws;
 mod leaf_completion;
@@ -23,6 +24,7 @@ mod state;
 mod stepping;
 mod steps;
 mod telling;
+mod touching;
 
 pub use flat_run::Seq;
 pub use laws::{

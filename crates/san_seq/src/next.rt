@@ -5,9 +5,11 @@ ghost use Rattle.san_law.specs.Next as law;
 ghost use Rattle.san_net.specs.Accepted.{IsAccepted};
 ghost use Rattle.san_net.specs.Laid.{places_of};
 ghost use Rattle.san_net.specs.Leaf.{found_by, first_in};
+ghost use Rattle.san_seq.specs.Known.{HaveNothing};
 ghost use Rattle.san_seq.specs.Nexts.{first_by, first_from, first_of_part, next_among, next_in};
 ghost use Rattle.san_seq.specs.Views.{IsOver};
 
+use crate::flags::Flags;
 use crate::leaf_view::LeafView;
 use san_base::{LeafId, Trap};
 use san_net::{Flat, Found, Part, first_instant};
@@ -61,18 +63,27 @@ fn first_at(flat: &Flat, leaf: LeafId, marking: Vec<u32>) -> (Option<Next>, Vec<
     (found_at(leaf, found), marking)
 }
 
-/// The first leaf's that has one, in order.
-fn first_of_all(flat: &Flat, marking: Vec<u32>) -> (Next, Vec<u32>)
+/// The first stale leaf's that has one, in order.
+fn first_of_all(flat: &Flat, stale: &Flags, marking: Vec<u32>) -> (Next, Vec<u32>)
+    requires flags { length stale.now ≡ length flat.now.parts }
+    requires idle { HaveNothing flat.now.parts stale.now marking.items }
     requires sized { length marking.items ≡ length flat.now.initial }
     ensures next { next_in result.0 ≡ first_from 0 marking.items flat.now.parts }
     ensures marking { result.1.items ≡ marking.items }
 {
     let mut marking = marking;
-    'leaves: for leaf in 0..flat.leaves() {
-        let (found, same) = first_at(flat, LeafId(leaf), marking);
-        marking = same;
-        if let Some(next) = found {
-            return (next, marking);
+    let mut from = 0;
+    'leaves: while from < flat.leaves() as usize {
+        match stale.next(from) {
+            None => return (Next::Stable, marking),
+            Some(leaf) => {
+                let (found, same) = first_at(flat, LeafId(leaf as u32), marking);
+                marking = same;
+                if let Some(next) = found {
+                    return (next, marking);
+                }
+                from = leaf + 1;
+            }
         }
     }
     (Next::Stable, marking)
@@ -80,7 +91,14 @@ fn first_of_all(flat: &Flat, marking: Vec<u32>) -> (Next, Vec<u32>)
 
 /// Which instantaneous activity completes next: the leaf that completed last is asked first, then
 /// the leaves in order (own rule). The marking comes back as it was.
-pub(crate) fn next_instant(flat: &Flat, last: Option<LeafId>, marking: Vec<u32>) -> (Next, Vec<u32>)
+pub(crate) fn next_instant(
+    flat: &Flat,
+    last: Option<LeafId>,
+    stale: &Flags,
+    marking: Vec<u32>,
+) -> (Next, Vec<u32>)
+    requires flags { length stale.now ≡ length flat.now.parts }
+    requires idle { HaveNothing flat.now.parts stale.now marking.items }
     requires last { IfSome last (λ leaf. leaf.0 < length flat.now.parts) }
     requires sized { length marking.items ≡ length flat.now.initial }
     ensures next { next_in result.0
@@ -92,9 +110,9 @@ pub(crate) fn next_instant(flat: &Flat, last: Option<LeafId>, marking: Vec<u32>)
             let (found, marking) = first_at(flat, leaf, marking);
             match found {
                 Some(next) => (next, marking),
-                None => first_of_all(flat, marking),
+                None => first_of_all(flat, stale, marking),
             }
         }
-        None => first_of_all(flat, marking),
+        None => first_of_all(flat, stale, marking),
     }
 }

@@ -7,9 +7,11 @@ ghost use Rattle.san_law.specs.State.{State};
 ghost use Rattle.san_net.specs.Laid.{acts_of};
 ghost use Rattle.san_net.specs.Network.{net_of};
 ghost use Rattle.san_net.specs.declared.part.Part.{Part};
+ghost use Rattle.san_seq.specs.Known.{AreFresh};
 ghost use Rattle.san_seq.specs.Renewals.{renewing_by};
 ghost use Rattle.san_seq.specs.Rows.{AreDrawn, AreRows, IsLike, IsRowOf, renewal_by, row_at};
 
+use crate::flags::Flags;
 use crate::leaf_renewal::renewed_leaf;
 use crate::rows::Row;
 use san_base::{LeafId, Trap};
@@ -56,13 +58,14 @@ fn renewed_at(
     )
 }
 
-/// The renewal of all timers at a time over the marking, which comes back as it was, up to the
+/// The renewal of all stale leaves' timers at a time over the marking, which comes back as it was, up to the
 /// first trap, which is told with its leaf and activity.
 pub(crate) fn renewed_rows(
     flat: &Flat,
     tables: &DelayTables,
     streams: &mut Streams,
     time: u64,
+    stale: &Flags,
     stable: &[u32],
     rows: &mut [Row],
     marking: Vec<u32>,
@@ -71,6 +74,9 @@ pub(crate) fn renewed_rows(
     requires stable { length stable.now ≡ length flat.now.initial }
     requires rows { AreRows flat.now.parts rows.old }
     requires streams { 2 * acts_of flat.now.parts ≤ streams.old.streams }
+    requires flags { length stale.now ≡ length flat.now.parts }
+    requires idle { AreFresh (draw_of streams.old.seed) flat.now.parts stale.now time stable.now
+        marking.items rows.old }
     requires numbers { (j : ℕ) → All (λ n. n + 1 < 2 ^ 40) (row_at rows.old j).delays }
     requires time { time < 2 ^ 62 }
     ensures rows { (limits : Limits) (s : State) → s.time ≡ time → s.stable ≡ stable.now
@@ -83,22 +89,28 @@ pub(crate) fn renewed_rows(
     ensures streams { streams.new ≡ streams.old }
 {
     let mut marking = marking;
-    'leaves: for j in 0..flat.leaves() {
-        let leaf = LeafId(j);
-        let (done, same) = renewed_at(
-            flat,
-            tables,
-            streams,
-            time,
-            leaf,
-            stable,
-            &mut rows[j as usize],
-            marking,
-        );
-        marking = same;
-        match done {
-            Ok(()) => (),
-            Err(fault) => return (Err((leaf, fault.0, fault.1)), marking),
+    let mut from = 0;
+    'leaves: while from < flat.leaves() as usize {
+        match stale.next(from) {
+            None => return (Ok(()), marking),
+            Some(j) => {
+                let leaf = LeafId(j as u32);
+                let (done, same) = renewed_at(
+                    flat,
+                    tables,
+                    streams,
+                    time,
+                    leaf,
+                    stable,
+                    &mut rows[j],
+                    marking,
+                );
+                marking = same;
+                match done {
+                    Ok(()) => from = j + 1,
+                    Err(fault) => return (Err((leaf, fault.0, fault.1)), marking),
+                }
+            }
         }
     }
     (Ok(()), marking)

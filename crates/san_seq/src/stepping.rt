@@ -10,6 +10,7 @@ ghost use Rattle.san_net.specs.Laid.{acts_of};
 ghost use Rattle.san_net.specs.Network.{net_of};
 ghost use Rattle.san_base.specs.Limits.{IsInRange};
 ghost use Rattle.san_seq.specs.Dues.{due_in};
+ghost use Rattle.san_seq.specs.Known.{AreFresh, AreIdle, AreQuiet, AreSettled, HaveNothing, HaveSame};
 ghost use Rattle.san_seq.specs.Nexts.{next_in};
 ghost use Rattle.san_seq.specs.Overs.{limits_in, told_case};
 ghost use Rattle.san_seq.specs.Rows.{AreDrawn, AreRows, IsLike, renewal_by, row_at};
@@ -18,10 +19,12 @@ ghost use Rattle.san_seq.specs.declared.limited.Over.TheVariants as over;
 
 use crate::due::{Due, least_due};
 use crate::firing::fired;
+use crate::flags::Flags;
 use crate::limited::{Over, complete_instant, complete_timed};
 use crate::next::{Next, next_instant};
 use crate::renewal::renewed_rows;
 use crate::state::State;
+use crate::touching::touch;
 use san_base::{LeafId, Limits, Trap};
 use san_delay::DelayTables;
 use san_draw::Streams;
@@ -59,7 +62,9 @@ fn told(time: u64, leaf: LeafId, act: u32, case: Result<u32, Over>) -> Result<Co
 }
 
 /// Which instantaneous activity completes next in a state, which comes back as it was.
-fn next_of(flat: &Flat, state: State) -> (Next, State)
+fn next_of(flat: &Flat, stale: &Flags, state: State) -> (Next, State)
+    requires flags { length stale.now ≡ length flat.now.parts }
+    requires idle { HaveNothing flat.now.parts stale.now state.marking }
     requires last { (j : ℕ) → state.last ≡ Some j → j < length flat.now.parts }
     requires sized { length state.marking ≡ length flat.now.initial }
     ensures next { (draw : ℕ → ℕ → ℕ) (bounds : Bounds) → next_in result.0
@@ -67,7 +72,7 @@ fn next_of(flat: &Flat, state: State) -> (Next, State)
     ensures left { result.1 ≡ state }
 {
     flat.is_network();
-    let (next, marking) = next_instant(flat, state.last, state.marking);
+    let (next, marking) = next_instant(flat, state.last, stale, state.marking);
     let left = State {
         time: state.time,
         marking,
@@ -85,12 +90,16 @@ fn renewed(
     flat: &Flat,
     tables: &DelayTables,
     streams: &mut Streams,
+    stale: &Flags,
     state: State,
 ) -> (Result<(), (LeafId, u32, Trap)>, State)
     requires sized { length state.marking ≡ length flat.now.initial }
     requires stable { length state.stable ≡ length flat.now.initial }
     requires rows { AreRows flat.now.parts state.rows }
     requires streams { 2 * acts_of flat.now.parts ≤ streams.old.streams }
+    requires flags { length stale.now ≡ length flat.now.parts }
+    requires idle { AreFresh (draw_of streams.old.seed) flat.now.parts stale.now state.time
+        state.stable state.marking state.rows }
     requires numbers { AreDrawn state.count state.rows }
     requires count { state.count < 2 ^ 30 }
     requires time { state.time < 2 ^ 62 }
@@ -109,6 +118,7 @@ fn renewed(
         tables,
         streams,
         state.time,
+        stale,
         stable.as_slice(),
         rows.as_mut_slice(),
         state.marking,
@@ -130,6 +140,7 @@ fn at_due(
     flat: &Flat,
     streams: &mut Streams,
     limits: &Limits,
+    stale: &mut Flags,
     due: Due,
     state: State,
 ) -> (Result<Completion, Ended>, State)
@@ -137,16 +148,23 @@ fn at_due(
     requires drawn { IsDrawn flat.now limits.now (state.count + 1) state }
     requires leaf { due.leaf.0 < length state.rows }
     requires act { due.act < length (row_at state.rows due.leaf.0).timers }
+    requires flags { length stale.old ≡ length flat.now.parts }
+    requires same { HaveSame flat.now.parts stale.old state.stable state.marking }
+    requires quiet { AreQuiet (draw_of streams.old.seed) flat.now.parts state.marking state.rows }
     requires streams { 2 * acts_of flat.now.parts ≤ streams.old.streams }
     ensures steps { (s : law_state.State) → with_rows state.rows s ≡ state → Steps result.0 result.1
         (law_step.at_due (net_of flat.now (draw_of streams.old.seed) (limits_in limits.now)) s
         state.rows (Some (due_in due))) }
     ensures running { IfOk result.0 (λ c. IsRunning flat.now limits.now result.1) }
+    ensures known { IfOk result.0 (λ c. AreIdle flat.now (draw_of streams.old.seed) stale.new
+        result.1) }
     ensures streams { streams.new ≡ streams.old }
 {
+    flat.is_network();
     if due.time <= limits.horizon.0 {
-        let then = fired(due, state);
+        let then = fired(flat, stale, due, state);
         let (case, left) = complete_timed(flat, streams, limits, due.leaf, due.act, then);
+        touch(flat, due.leaf, &left.stable, &left.marking, stale);
         (told(due.time, due.leaf, due.act, case), left)
     } else {
         (Err(at_horizon(limits)), state)
@@ -169,21 +187,26 @@ fn at_rest(
     tables: &DelayTables,
     streams: &mut Streams,
     limits: &Limits,
+    stale: &mut Flags,
     state: State,
 ) -> (Result<Completion, Ended>, State)
     requires range { IsInRange limits.now }
     requires running { IsRunning flat.now limits.now state }
+    requires known { AreIdle flat.now (draw_of streams.old.seed) stale.old state }
+    requires settled { AreSettled flat.now.parts state.marking }
     requires streams { 2 * acts_of flat.now.parts ≤ streams.old.streams }
     ensures steps { Steps result.0 result.1 (law_step.at_next (net_of flat.now
         (draw_of streams.old.seed) (limits_in limits.now)) state law.Stable) }
     ensures running { IfOk result.0 (λ c. IsRunning flat.now limits.now result.1) }
+    ensures known { IfOk result.0 (λ c. AreIdle flat.now (draw_of streams.old.seed) stale.new
+        result.1) }
     ensures streams { streams.new ≡ streams.old }
 {
     flat.is_network();
-    let (done, left) = renewed(flat, tables, streams, state);
+    let (done, left) = renewed(flat, tables, streams, stale, state);
     match done {
         Ok(()) => match least_due(left.rows.as_slice()) {
-            Some(due) => at_due(flat, streams, limits, due, left),
+            Some(due) => at_due(flat, streams, limits, stale, due, left),
             None => (Err(at_horizon(limits)), left),
         },
         Err((leaf, act, trap)) => {
@@ -204,23 +227,28 @@ pub(crate) fn step(
     tables: &DelayTables,
     streams: &mut Streams,
     limits: &Limits,
+    stale: &mut Flags,
     state: State,
 ) -> (Result<Completion, Ended>, State)
     requires range { IsInRange limits.now }
     requires running { IsRunning flat.now limits.now state }
+    requires known { AreIdle flat.now (draw_of streams.old.seed) stale.old state }
     requires streams { 2 * acts_of flat.now.parts ≤ streams.old.streams }
     ensures steps { Steps result.0 result.1 (law_step.step (net_of flat.now
         (draw_of streams.old.seed) (limits_in limits.now)) state) }
     ensures running { IfOk result.0 (λ c. IsRunning flat.now limits.now result.1) }
+    ensures known { IfOk result.0 (λ c. AreIdle flat.now (draw_of streams.old.seed) stale.new
+        result.1) }
     ensures streams { streams.new ≡ streams.old }
 {
     flat.is_network();
-    let (next, state) = next_of(flat, state);
+    let (next, state) = next_of(flat, stale, state);
     match next {
-        Next::Stable => at_rest(flat, tables, streams, limits, state),
+        Next::Stable => at_rest(flat, tables, streams, limits, stale, state),
         Next::Completes(leaf, act) => {
             let time = state.time;
             let (case, left) = complete_instant(flat, streams, limits, leaf, act, state);
+            touch(flat, leaf, &left.stable, &left.marking, stale);
             (told(time, leaf, act, case), left)
         }
         Next::Traps(leaf, act, trap) => {

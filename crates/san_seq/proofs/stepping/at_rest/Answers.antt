@@ -14,6 +14,8 @@ use Rattle.san_seq.specs.Rows.{renewal_by, row_at}
 use Rattle.san_seq.specs.Running.{Steps}
 use Rattle.san_seq.specs.declared.stepping.Ended.{Ended}
 use Rattle.san_seq.proofs.RangeLemmas.{due_within, rows_small}
+use Rattle.san_seq.specs.Known.{AreQuiet, HaveSame}
+use Rattle.san_seq.proofs.KnownLemmas.{are_fresh, have_same, quiet_after}
 use Rattle.san_seq.proofs.RunningLemmas.{renewed_drawn}
 use Rattle.san_seq.proofs.SteppingLemmas.{ends_like}
 use Rattle.san_seq.proofs.stepping.at_rest.Goals as goal
@@ -66,3 +68,24 @@ returns-in-Err-clause-steps c =
     ends_like c.renewed-done.result.1 _ (at_rest net c.args.state (law.renewed_from net c.args.state 0 c.args.state.rows))
     (ap (λ (x : State). Over x.time (Trapped c.in-Err.leaf.0 c.in-Err.act c.in-Err.trap)) (c.left-in-Err.view_is ∙ c.renewed-done.ensures.left) ∙ ap (λ (x : Stepped × State). x.0) (sym over))
     (ap (λ (x : State). x.marking) c.renewed-done.ensures.left ∙ ap (λ (x : Stepped × State). x.1.marking) (sym over))
+
+pub renewed-done-requires-clause-idle : goal.renewed-done-requires-clause-idle
+renewed-done-requires-clause-idle c =
+    are_fresh c.args.flat.now (draw_of c.args.streams.now.seed) c.args.stale.now c.args.state c.requires.known
+
+pub at_due-requires-clause-same : goal.at_due-requires-clause-same
+at_due-requires-clause-same c =
+    subst (λ (s : State). HaveSame c.args.flat.now.parts c.args.stale.now s.stable s.marking) (sym c.renewed-done.ensures.left)
+    (have_same c.args.flat.now (draw_of c.args.streams.now.seed) c.args.stale.now c.args.state c.requires.known)
+
+pub at_due-requires-clause-quiet : goal.at_due-requires-clause-quiet
+at_due-requires-clause-quiet c =
+    let n = c.args.flat.now in
+    let draw = draw_of c.args.streams.now.seed in
+    let bounds = limits_in c.args.limits.now in
+    let rows = c.renewed-done.result.1.rows in
+    let fresh = sym (c.renewed-done.ensures.rows bounds) ∙ ap (λ (r : Result (Unit {0}) (LeafId × ℕ × Trap)). renewal_by r rows) c.in-Ok.is in
+    let seed = ap (λ x. x.seed) c.renewed-done.ensures.streams in
+    subst (λ (s : ℕ). AreQuiet (draw_of s) n.parts c.renewed-done.result.1.marking rows) (sym seed)
+    (subst (λ (m : List ℕ). AreQuiet draw n.parts m rows) (ap (λ (s : State). s.marking) (sym c.renewed-done.ensures.left))
+    (quiet_after n draw bounds (c.is_network.ensures.lawful draw bounds) c.args.state rows c.requires.running.rows.each fresh c.requires.settled))

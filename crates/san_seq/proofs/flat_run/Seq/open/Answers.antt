@@ -1,6 +1,8 @@
-use Rattle.std.proofs.Common.{arith, ap}
+use Rattle.std.proofs.Common.{arith, ◌∙◌, ap, true, ℕ}
+use Rattle.san_law.specs.State.{repeated}
 use Rattle.san_draw.specs.Key.{draw_of}
 use Rattle.san_seq.specs.Overs.{limits_in}
+use Rattle.san_seq.proofs.KnownLemmas.{all_are_stale}
 use Rattle.san_seq.proofs.OpenLemmas.{begun_is, state_is, state_runs}
 use Rattle.san_seq.proofs.flat_run.Seq.open.Goals as goal
 
@@ -10,7 +12,10 @@ invariant_of-result c =
     record {
       range = c.requires;
       draws = omega (arith, many, c.acts.ensures);
-      going = state_runs c.args.flat.now c.args.limits c.in_ok-marking.marking.items c.in_ok-stable.stable.items c.in_ok-blanks.field-0.items c.in_ok-marking.ensures c.in_ok-stable.ensures c.in_ok-blanks.ensures;
+      going = (
+        state_runs c.args.flat.now c.args.limits c.in_ok-marking.marking.items c.in_ok-stable.stable.items c.in_ok-blanks.field-0.items c.in_ok-marking.ensures c.in_ok-stable.ensures c.in_ok-blanks.ensures,
+        all_are_stale c.args.flat.now (draw_of c.in_ok-streams.streams.seed) c.in_ok-stale.stale _ (c.in_ok-stale.ensures ∙ ap (λ (k : ℕ). repeated k true) c.leaves.ensures),
+      );
     }
 
 pub returns : goal.returns

@@ -1,0 +1,284 @@
+-- Leaves that aren't stale stay idle through a step.
+use Rattle.std.proofs.Common.{ℕ, zero, suc, ◌+◌, ◌<◌, ◌≡◌, ◌≢◌, ◌∙◌, ◌⊎◌, inl, inr, ap, sym, refl, subst, arith, List, [], ◌∷◌, length, Option, Some, None, Result, Ok, Err, IfOk, Bool, true, false, slice_index, slice_set, nat_eq}
+use Rattle.std.specs.Prelude.{slice_get}
+use Rattle.std.proofs.lemmas.Bool.{eqb-true}
+use Rattle.std.proofs.lemmas.List.{get_or-set_other}
+use Rattle.std.proofs.lemmas.Option.{slice_get_within}
+use Rattle.san_base.specs.declared.ending.Trap.{Trap}
+use Rattle.san_law.proofs.Places.{scatter_at}
+use Rattle.san_law.specs.Lawful.{AllBelow, IsLaid, IsLawful}
+use Rattle.san_law.specs.Net.{Done, Faulty, Fresh, Found, Net, Nothing, Renewing, Row, no_row, without_timer}
+use Rattle.san_law.specs.Network.{Limits as Bounds}
+use Rattle.san_law.specs.Next.{Next, Stable, found_at}
+use Rattle.san_law.specs.Renewal.{AllFresh, Due, FaultAt, Renewal, and_rest, renewed_at, renewed_from, renewed_then}
+use Rattle.san_law.specs.State.{State, gather, index_of, local_of, or_next, repeated, scatter, slots_of, taken_from}
+use Rattle.san_law.specs.Step as law
+use Rattle.san_net.specs.Laid.{places_of}
+use Rattle.san_net.specs.Leaf.{first_in, leaf_of}
+use Rattle.san_net.specs.Network.{Network, net_of}
+use Rattle.san_net.specs.declared.part.Part.{Part}
+use Rattle.san_law.specs.Clocks.{renewed_row}
+use Rattle.san_seq.specs.Known.{AreFresh, AreIdle, AreQuiet, AreSettled, HaveNothing, HaveSame, IsIdle, TouchedAll}
+use Rattle.san_seq.specs.Nexts.{first_by, first_from, first_of_part, next_among}
+use Rattle.san_seq.specs.Overs.{instant_in}
+use Rattle.san_seq.specs.Renewals.{renewed_part}
+use Rattle.san_seq.specs.Rows.{row_at}
+use Rattle.san_seq.specs.States.{Told, told_by}
+use Rattle.san_seq.specs.Running.{told_in}
+use Rattle.san_seq.specs.declared.stepping.Completion.{Completion}
+use Rattle.san_seq.specs.declared.stepping.Ended.{Ended}
+use Rattle.san_seq.proofs.NextLemmas.{cut}
+use Rattle.san_seq.proofs.PartLemmas.{lies_over, places_are}
+use Rattle.san_seq.proofs.RowLemmas.{part_renewed}
+use Rattle.san_seq.proofs.RunningLemmas.{scattered}
+use Rattle.san_seq.proofs.TouchLemmas.{gather_at, gather_eq}
+
+not_false : (o : Option Bool) → o ≡ Some true → o ≡ Some false → {A : Type 0} → A
+not_false o a b = cc
+
+-- what the flags give
+pub have_nothing : (n : Network) (draw : ℕ → ℕ → ℕ) (stale : List Bool) (s : State) → AreIdle n draw stale s → HaveNothing n.parts stale s.marking
+have_nothing n draw stale s known j down = by_part (slice_get n.parts j) refl
+  where
+    by_part : (o : Option Part) → slice_get n.parts j ≡ o → first_by s.marking (slice_get n.parts j) ≡ Nothing
+    by_part None is = ap (first_by s.marking) is
+    by_part (Some p) is = ap (first_by s.marking) is ∙ (known.idle j p is down).nothing
+
+pub have_same : (n : Network) (draw : ℕ → ℕ → ℕ) (stale : List Bool) (s : State) → AreIdle n draw stale s → HaveSame n.parts stale s.stable s.marking
+have_same n draw stale s known j p is down = (known.idle j p is down).same
+
+pub are_fresh : (n : Network) (draw : ℕ → ℕ → ℕ) (stale : List Bool) (s : State) → AreIdle n draw stale s → AreFresh draw n.parts stale s.time s.stable s.marking s.rows
+are_fresh n draw stale s known j p down is =
+    let idle = known.idle j p is down in
+    ap (λ (seen : List ℕ). renewed_row draw (leaf_of p) s.time seen (record { values = gather (places_of p) s.marking; row = row_at s.rows j })) idle.same ∙ idle.quiet s.time
+
+-- where nothing comes next, no leaf has anything
+nothing_by : (j : ℕ) (f : Found) (rest : Next) → found_at j f rest ≡ Stable → (f ≡ Nothing) × (rest ≡ Stable)
+nothing_by j Nothing rest e = (refl, e)
+nothing_by j (Rattle.san_law.specs.Net.Enabled k) rest e = absurd cc
+nothing_by j (Rattle.san_law.specs.Net.Broken k trap) rest e = absurd cc
+
+settled_from : (j : ℕ) (m : List ℕ) (ps : List Part) → first_from j m ps ≡ Stable → (i : ℕ) (p : Part) → slice_get ps i ≡ Some p → first_of_part m p ≡ Nothing
+unfolding first_from
+settled_from j m [] e i p is = absurd cc
+settled_from j m (q ∷ ps) e zero p is =
+    let same : q ≡ p = one q p is in
+    ap (first_of_part m) (sym same) ∙ (nothing_by j (first_of_part m q) (first_from (suc j) m ps) e).0
+  where
+    one : (x y : Part) → (let o : Option Part = Some x in o) ≡ Some y → x ≡ y
+    one x y q = cc
+settled_from j m (q ∷ ps) e (suc i) p is = settled_from (suc j) m ps (nothing_by j (first_of_part m q) (first_from (suc j) m ps) e).1 i p is
+
+settled_by : (parts : List Part) (last : Option ℕ) (m : List ℕ) → next_among parts last m ≡ Stable → AreSettled parts m
+settled_by parts None m e j p is = settled_from 0 m parts e j p is
+settled_by parts (Some l) m e j p is = settled_from 0 m parts (nothing_by l (first_by m (slice_get parts l)) (first_from 0 m parts) e).1 j p is
+
+pub settled : (parts : List Part) (last : Option ℕ) (m : List ℕ) → next_among parts last m ≡ Stable → AreSettled parts m
+settled = settled_by
+
+-- what renewal leaves of each row
+abbrev EachFresh : Net → State → ℕ → List Row → Renewal → Type 0
+EachFresh net s i rows (AllFresh fresh) = (j : ℕ) → j < length rows → renewed_at net s (i + j) (row_at rows j) ≡ Fresh (row_at fresh j)
+EachFresh net s i rows (FaultAt j k trap) = Unit {0}
+
+each_rest : (net : Net) (s : State) (i : ℕ) (r now : Row) (rs : List Row) (x : Renewal) → renewed_at net s i r ≡ Fresh now → EachFresh net s (suc i) rs x → EachFresh net s i (r ∷ rs) (and_rest now x)
+each_rest net s i r now rs (FaultAt j k trap) here rest = tt
+each_rest net s i r now rs (AllFresh fresh) here rest = each
+  where
+    each : (j : ℕ) → j < length (r ∷ rs) → renewed_at net s (i + j) (row_at (r ∷ rs) j) ≡ Fresh (row_at (now ∷ fresh) j)
+    each zero h = let same : i + 0 ≡ i = omega arith in ap (λ (k : ℕ). renewed_at net s k r) same ∙ here
+    each (suc j) h = let same : i + suc j ≡ suc i + j = omega arith in ap (λ (k : ℕ). renewed_at net s k (row_at rs j)) same ∙ rest j (omega (arith, h))
+
+each_then : (net : Net) (s : State) (i : ℕ) (r : Row) (rs : List Row) (x : Renewing) (rest : Renewal) → renewed_at net s i r ≡ x → EachFresh net s (suc i) rs rest → EachFresh net s i (r ∷ rs) (renewed_then i x rest)
+each_then net s i r rs (Fresh now) rest here h = each_rest net s i r now rs rest here h
+each_then net s i r rs (Faulty k trap) rest here h = tt
+
+each_fresh : (net : Net) (s : State) (i : ℕ) (rows : List Row) → EachFresh net s i rows (renewed_from net s i rows)
+each_fresh net s i [] = λ j h. absurd (omega (arith, h))
+each_fresh net s i (r ∷ rs) = each_then net s i r rs (renewed_at net s i r) (renewed_from net s (suc i) rs) refl (each_fresh net s (suc i) rs)
+
+-- all leaves are quiet after a renewal
+pub quiet_after : (n : Network) (draw : ℕ → ℕ → ℕ) (bounds : Bounds) → IsLawful (net_of n draw bounds) → (s : State) (fresh : List Row) → length s.rows ≡ length n.parts
+    → renewed_from (net_of n draw bounds) s 0 s.rows ≡ AllFresh fresh → AreSettled n.parts s.marking → AreQuiet draw n.parts s.marking fresh
+quiet_after n draw bounds ok s fresh sized renewed nothing j p is = (nothing j p is, quiet)
+  where
+    net : Net
+    net = net_of n draw bounds
+
+    here : renewed_at net s (0 + j) (row_at s.rows j) ≡ Fresh (row_at fresh j)
+    here = subst (EachFresh net s 0 s.rows) renewed (each_fresh net s 0 s.rows) j (omega (arith, slice_get_within n.parts j p is, sized))
+
+    quiet : (t : ℕ) → renewed_part draw p t s.marking s.marking (row_at fresh j) ≡ Fresh (row_at fresh j)
+    quiet t =
+        let same : 0 + j ≡ j = omega arith in
+        let at : renewed_at net s j (row_at s.rows j) ≡ Fresh (row_at fresh j) = ap (λ (k : ℕ). renewed_at net s k (row_at s.rows j)) (sym same) ∙ here in
+        let u : State = record { time = t; marking = s.marking; stable = s.marking; rows = s.rows; burst = s.burst; last = s.last; count = s.count } in
+        part_renewed n draw bounds u j p t s.marking s.marking (row_at fresh j) is refl refl refl
+        ∙ ok.again j s.time t (gather (slots_of net j) s.stable) (record { values = gather (slots_of net j) s.marking; row = row_at s.rows j }) (row_at fresh j) at
+
+-- what a completion leaves of a state
+pub record Moved (net : Net) (j : ℕ) (u v : State) : Type 0 where
+  pub values : List ℕ
+  pub row : Row
+  pub marking : v.marking ≡ scatter (slots_of net j) values u.marking
+  pub stable : v.stable ≡ u.stable
+  pub rows : v.rows ≡ slice_set u.rows j row
+
+complete_moved : (net : Net) (u : State) (burst j k : ℕ) (r : Result Done Trap) (t : Told) → told_by (law.complete net u burst j k r).0 ≡ Ok t → Moved net j u (law.complete net u burst j k r).1
+complete_moved net u burst j k (Err trap) t told = absurd cc
+complete_moved net u burst j k (Ok d) t told = record { values = d.left.values; row = d.left.row; marking = refl; stable = refl; rows = refl }
+
+unless_moved : (net : Net) (u : State) (burst j k : ℕ) (o : Option law.Ending) (r : Result Done Trap) (t : Told) → told_by (law.unless_over u o (law.complete net u burst j k r)).0 ≡ Ok t
+    → Moved net j u (law.unless_over u o (law.complete net u burst j k r)).1
+unless_moved net u burst j k (Some e) r t told = absurd cc
+unless_moved net u burst j k None r t told = complete_moved net u burst j k r t told
+
+pub fire_moved : (net : Net) (u : State) (j k : ℕ) (t : Told) → told_by (law.fire net u j k).0 ≡ Ok t → Moved net j u (law.fire net u j k).1
+fire_moved net u j k t told = unless_moved net u 0 j k (law.count_limit net u.count) (net.done j k (local_of net u j)) t told
+
+pub instant_moved : (n : Network) (draw : ℕ → ℕ → ℕ) (bounds : Bounds) (u : State) (j k : ℕ) (t : Told) → told_by (instant_in n draw bounds u j k).0 ≡ Ok t → Moved (net_of n draw bounds) j u (instant_in n draw bounds u j k).1
+instant_moved n draw bounds u j k t told =
+    unless_moved (net_of n draw bounds) u (u.burst + 1) j k (law.limit_at (net_of n draw bounds) u.burst u.count) ((net_of n draw bounds).done j k (local_of (net_of n draw bounds) u j)) t told
+
+-- whatever it comes to, the markings are as long as before
+complete_sized : (net : Net) (u : State) (burst j k m : ℕ) (r : Result Done Trap) → length u.marking ≡ m → length u.stable ≡ m → (length (law.complete net u burst j k r).1.marking ≡ m) × (length (law.complete net u burst j k r).1.stable ≡ m)
+complete_sized net u burst j k m (Err trap) a b = (a, b)
+complete_sized net u burst j k m (Ok d) a b = (scattered (slots_of net j) d.left.values u.marking ∙ a, b)
+
+unless_sized : (net : Net) (u : State) (burst j k m : ℕ) (o : Option law.Ending) (r : Result Done Trap) → length u.marking ≡ m → length u.stable ≡ m
+    → (length (law.unless_over u o (law.complete net u burst j k r)).1.marking ≡ m) × (length (law.unless_over u o (law.complete net u burst j k r)).1.stable ≡ m)
+unless_sized net u burst j k m (Some e) r a b = (a, b)
+unless_sized net u burst j k m None r a b = complete_sized net u burst j k m r a b
+
+pub fire_sized : (net : Net) (u : State) (j k m : ℕ) → length u.marking ≡ m → length u.stable ≡ m → (length (law.fire net u j k).1.marking ≡ m) × (length (law.fire net u j k).1.stable ≡ m)
+fire_sized net u j k m a b = unless_sized net u 0 j k m (law.count_limit net u.count) (net.done j k (local_of net u j)) a b
+
+pub instant_sized : (n : Network) (draw : ℕ → ℕ → ℕ) (bounds : Bounds) (u : State) (j k m : ℕ) → length u.marking ≡ m → length u.stable ≡ m
+    → (length (instant_in n draw bounds u j k).1.marking ≡ m) × (length (instant_in n draw bounds u j k).1.stable ≡ m)
+instant_sized n draw bounds u j k m a b =
+    let net = net_of n draw bounds in
+    unless_sized net u (u.burst + 1) j k m (law.limit_at net u.burst u.count) (net.done j k (local_of net u j)) a b
+
+-- where a place stands in a list of them
+found_place : (q : ℕ) (places : List ℕ) (i : ℕ) → index_of q places ≡ Some i → slice_get places i ≡ Some q
+found_place q [] i e = absurd cc
+found_place q (p ∷ ps) i e = by_test (found_place q ps) (nat_eq q p) refl (index_of q ps) refl i e
+  where
+    one : (x y : ℕ) → (let o : Option ℕ = Some x in o) ≡ Some y → x ≡ y
+    one x y f = cc
+
+    by_test : ((k : ℕ) → index_of q ps ≡ Some k → slice_get ps k ≡ Some q) → (b : Bool) → nat_eq q p ≡ b → (o : Option ℕ) → index_of q ps ≡ o → (k : ℕ) → or_next b o ≡ Some k → slice_get (p ∷ ps) k ≡ Some q
+    by_test rest true t o is k f = subst (λ (x : ℕ). slice_get (p ∷ ps) x ≡ Some q) (one 0 k f) (ap (λ (x : ℕ). (let z : Option ℕ = Some x in z)) (sym (eqb-true q p t)))
+    by_test rest false t None is k f = absurd cc
+    by_test rest false t (Some x) is k f = subst (λ (y : ℕ). slice_get (p ∷ ps) y ≡ Some q) (one (suc x) k f) (rest x is)
+
+-- a place has its value, but where it is one of the leaf's
+same_or_own : (slots values m : List ℕ) (q : ℕ) → q < length m → (slice_index (scatter slots values m) q ≡ slice_index m q) ⊎ ((i : ℕ) × (slice_get slots i ≡ Some q))
+same_or_own slots values m q h = by_place (index_of q slots) refl
+  where
+    by_place : (o : Option ℕ) → index_of q slots ≡ o → (slice_index (scatter slots values m) q ≡ slice_index m q) ⊎ ((i : ℕ) × (slice_get slots i ≡ Some q))
+    by_place None is = inl (scatter_at slots values m q h ∙ ap (λ (x : Option ℕ). taken_from values x (slice_index m q)) is)
+    by_place (Some i) is = inr (i, found_place q slots i is)
+
+-- a leaf that keeps its values stays idle
+idle_moved : (draw : ℕ → ℕ → ℕ) (p : Part) (stable m now : List ℕ) (r : Row) → first_of_part m p ≡ Nothing → ((t : ℕ) → renewed_part draw p t m m r ≡ Fresh r)
+    → gather (places_of p) m ≡ gather (places_of p) now → gather (places_of p) stable ≡ gather (places_of p) now → IsIdle draw p stable now r
+idle_moved draw p stable m now r nothing quiet values same = record {
+  same = same;
+  nothing = ap (first_in p.atomic) (sym values) ∙ nothing;
+  quiet = λ t. ap (λ (v : List ℕ). renewed_row draw (leaf_of p) t v (record { values = v; row = r })) (sym values) ∙ quiet t;
+}
+
+-- a completed leaf is stale with all those that have a place which isn't as it was; the others stay idle
+pub idle_after : (n : Network) (draw : ℕ → ℕ → ℕ) (bounds : Bounds) (j : ℕ) (part : Part) (u v : State) (old new : List Bool) → slice_get n.parts j ≡ Some part
+    → ((i : ℕ) (p : Part) (k q : ℕ) → slice_get n.parts i ≡ Some p → slice_get (places_of p) k ≡ Some q → q < length u.marking)
+    → Moved (net_of n draw bounds) j u v → TouchedAll n (places_of part) v.stable v.marking old new → slice_get new j ≡ Some true → length old ≡ length n.parts
+    → ((i : ℕ) (p : Part) → i ≢ j → slice_get n.parts i ≡ Some p → slice_get new i ≡ Some false → IsIdle draw p u.stable u.marking (row_at u.rows i))
+    → AreIdle n draw new v
+idle_after n draw bounds j part u v old new is within moved touched own long known = record { sized = touched.sized ∙ long; idle = each }
+  where
+    other : (i : ℕ) → slice_get new i ≡ Some false → i ≢ j
+    other i down e = not_false (slice_get new j) own (ap (slice_get new) (sym e) ∙ down)
+
+    each : (i : ℕ) (p : Part) → slice_get n.parts i ≡ Some p → slice_get new i ≡ Some false → IsIdle draw p v.stable v.marking (row_at v.rows i)
+    each i p at down =
+        let was = known i p (other i down) at down in
+        let places : slots_of (net_of n draw bounds) j ≡ places_of part = places_are n j part is draw bounds in
+        let marking : v.marking ≡ scatter (places_of part) moved.values u.marking = moved.marking ∙ ap (λ (ss : List ℕ). scatter ss moved.values u.marking) places in
+        let same = gather_eq (places_of p) v.stable v.marking (λ k q e. one_place k q e was marking (same_or_own (places_of part) moved.values u.marking q (within i p k q at e))) in
+        let row : row_at v.rows i ≡ row_at u.rows i = ap (λ (rs : List Row). row_at rs i) moved.rows ∙ get_or-set_other u.rows j i moved.row no_row (other i down) in
+        subst (IsIdle draw p v.stable v.marking) (sym row)
+        (idle_moved draw p v.stable u.marking v.marking (row_at u.rows i) was.nothing was.quiet (sym was.same ∙ ap (gather (places_of p)) (sym moved.stable) ∙ same) same)
+      where
+        one_place : (k q : ℕ) → slice_get (places_of p) k ≡ Some q → IsIdle draw p u.stable u.marking (row_at u.rows i) → v.marking ≡ scatter (places_of part) moved.values u.marking
+            → (slice_index (scatter (places_of part) moved.values u.marking) q ≡ slice_index u.marking q) ⊎ ((l : ℕ) × (slice_get (places_of part) l ≡ Some q)) → slice_index v.stable q ≡ slice_index v.marking q
+        one_place k q e was marking (inl f) =
+            ap (λ (xs : List ℕ). slice_index xs q) moved.stable ∙ gather_at (places_of p) u.stable u.marking k q was.same e ∙ sym f ∙ sym (ap (λ (xs : List ℕ). slice_index xs q) marking)
+        one_place k q e was marking (inr f) = touched.equal f.0 i k q p f.1 at down e
+
+-- before the first step all leaves are stale
+all_up : (many j : ℕ) → (let xs : List Bool = repeated many true in slice_get xs j) ≡ Some false → {A : Type 0} → A
+all_up zero j e = cc
+all_up (suc many) zero e = cc
+all_up (suc many) (suc j) e = all_up many j e
+
+length_repeated : {A : Type 0} (k : ℕ) (a : A) → length (repeated k a) ≡ k
+length_repeated zero a = refl
+length_repeated (suc k) a = ap suc (length_repeated k a)
+
+pub all_are_stale : (n : Network) (draw : ℕ → ℕ → ℕ) (stale : List Bool) (s : State) → stale ≡ repeated (length n.parts) true → AreIdle n draw stale s
+all_are_stale n draw stale s is = record {
+  sized = ap length is ∙ length_repeated (length n.parts) true;
+  idle = λ j p at down. all_up (length n.parts) j (ap (λ (xs : List Bool). slice_get xs j) (sym is) ∙ down);
+}
+
+all_below_at : (xs : List ℕ) (n k q : ℕ) → AllBelow xs n → slice_get xs k ≡ Some q → q < n
+all_below_at [] n k q b e = absurd cc
+all_below_at (x ∷ xs) n zero q b e = subst (λ (y : ℕ). y < n) (one x q e) b.0
+  where
+    one : (a c : ℕ) → (let o : Option ℕ = Some a in o) ≡ Some c → a ≡ c
+    one a c f = cc
+all_below_at (x ∷ xs) n (suc k) q b e = all_below_at xs n k q b.1 e
+
+-- each place of a leaf is one of the marking
+places_within : (n : Network) (m : List ℕ) → length m ≡ length n.initial → ((draw : ℕ → ℕ → ℕ) (bounds : Bounds) → IsLaid (net_of n draw bounds) (length n.initial))
+    → (i : ℕ) (p : Part) (k q : ℕ) → slice_get n.parts i ≡ Some p → slice_get (places_of p) k ≡ Some q → q < length m
+places_within n m sized lies i p k q is at = all_below_at (places_of p) (length m) k q (lies_over n i p is m sized lies).within at
+
+-- what is told is what a step told
+pub if_told : (r : Result Completion Ended) (x : Result Told (ℕ × law.Ending)) (P : Type 0) → told_in r ≡ x → ((t : Told) → x ≡ Ok t → P) → IfOk r (λ c. P)
+if_told (Ok c) x P e h = h _ (sym e)
+if_told (Err e) x P is h = tt
+
+-- flags over markings that are these
+touched_over : (n : Network) (places stable m a b : List ℕ) (old new : List Bool) → a ≡ stable → b ≡ m → TouchedAll n places a b old new → TouchedAll n places stable m old new
+touched_over n places stable m a b old new e f so =
+    subst (λ (x : List ℕ). TouchedAll n places x m old new) e (subst (λ (y : List ℕ). TouchedAll n places a y old new) f so)
+
+module _ (n : Network) (draw : ℕ → ℕ → ℕ) (bounds : Bounds) (lies : (d : ℕ → ℕ → ℕ) (b : Bounds) → IsLaid (net_of n d b) (length n.initial)) (j k : ℕ) (h : j < length n.parts) (v : State) (a b : List ℕ) (old new : List Bool)
+    (at_a : a ≡ v.stable) (at_b : b ≡ v.marking) (long : length old ≡ length n.parts) (own : slice_get new j ≡ Some true)
+    (touched : (p : Part) → slice_get n.parts j ≡ Some p → TouchedAll n (places_of p) a b old new) where
+  pub timed_known : (s : State) (d : Due) (u : State) (t : Told) → d.leaf ≡ j → length s.marking ≡ length n.initial → u ≡ law.fired (net_of n draw bounds) s s.rows d → AreQuiet draw n.parts s.marking s.rows
+      → v ≡ (law.fire (net_of n draw bounds) u j k).1 → told_by (law.fire (net_of n draw bounds) u j k).0 ≡ Ok t → AreIdle n draw new v
+  timed_known s d u t leaf sized is quiet left told =
+      let net = net_of n draw bounds in
+      let part = cut n.parts j h in
+      let moved_u : Moved net j u v = subst (Moved net j u) (sym left) (fire_moved net u j k t told) in
+      let moved : Moved net j (law.fired net s s.rows d) v = subst (λ (x : State). Moved net j x v) is moved_u in
+      idle_after n draw bounds j part.0 (law.fired net s s.rows d) v old new part.1 (places_within n s.marking sized lies) moved
+      (touched_over n (places_of part.0) v.stable v.marking a b old new at_a at_b (touched part.0 part.1)) own long
+      (λ i p other at down.
+      let q = quiet i p at in
+      let row : row_at (slice_set s.rows d.leaf (without_timer (row_at s.rows d.leaf) d.act)) i ≡ row_at s.rows i = get_or-set_other s.rows d.leaf i (without_timer (row_at s.rows d.leaf) d.act) no_row (λ e. other (e ∙ leaf)) in
+      subst (IsIdle draw p s.marking s.marking) (sym row) (record { same = refl; nothing = q.0; quiet = q.1 }))
+
+  pub instant_known : (s u : State) (t : Told) → length s.marking ≡ length n.initial → u ≡ s → AreIdle n draw old s
+      → v ≡ (instant_in n draw bounds u j k).1 → told_by (instant_in n draw bounds u j k).0 ≡ Ok t → AreIdle n draw new v
+  instant_known s u t sized is known left told =
+      let net = net_of n draw bounds in
+      let part = cut n.parts j h in
+      let moved_u : Moved net j u v = subst (Moved net j u) (sym left) (instant_moved n draw bounds u j k t told) in
+      let moved : Moved net j s v = subst (λ (x : State). Moved net j x v) is moved_u in
+      let over = touched_over n (places_of part.0) v.stable v.marking a b old new at_a at_b (touched part.0 part.1) in
+      idle_after n draw bounds j part.0 s v old new part.1 (places_within n s.marking sized lies) moved over own long
+      (λ i p other at down. known.idle i p at (over.kept i down))

@@ -1,0 +1,65 @@
+ghost use Rattle.std.specs.Prelude.{◌≡◌, ◌<◌, ◌≤◌, ◌^◌, true, IfOk, length, slice_set};
+ghost use Rattle.san_law.specs.State.{repeated};
+ghost use Rattle.san_seq.specs.Flags.{IsKey, SaysNext, is_up};
+
+use san_base::NoMemory;
+use san_winner::Winners;
+use std::alloc::Global;
+use std::marker::Model;
+
+/// A fixed number of flags, each of them up or down.
+#[derive(Debug, Drop)]
+pub(crate) struct Flags {
+    keys: Winners,
+}
+
+impl Model for Flags {
+    ghost use Rattle.std.specs.Prelude.{List, Bool, map};
+    ghost use Rattle.san_seq.specs.Flags.{AreKeys, is_up};
+
+    ghost Value = { List Bool };
+
+    ghost view = { λ f. map is_up f.keys };
+
+    ghost invariant = { λ f. AreKeys f.keys };
+}
+
+fn key_of(up: bool) -> Option<u64>
+    ensures key { IsKey result }
+    ensures up { is_up result ≡ up }
+{
+    if up { Some(0) } else { None }
+}
+
+impl Flags {
+    /// So many flags, all of them up.
+    pub(crate) fn open(alloc: Global, many: usize) -> Result<Flags, NoMemory>
+        requires { many < 2 ^ 60 }
+        ensures { IfOk result (λ f. f ≡ repeated many true) }
+    {
+        let mut keys = Winners::open(alloc, many)?;
+        'flags: for at in 0..many {
+            keys.set(at, Some(0));
+        }
+        Ok(Flags { keys })
+    }
+
+    /// Puts a flag up, or takes it down.
+    pub(crate) fn set(&mut self, at: usize, up: bool)
+        requires { at < length self.old }
+        ensures { self.new ≡ slice_set self.old at up }
+    {
+        self.keys.set(at, key_of(up));
+    }
+
+    /// The first flag that is up, from one on.
+    pub(crate) fn next(&self, from: usize) -> Option<usize>
+        requires { from ≤ length self.now }
+        ensures { SaysNext from self.now result }
+    {
+        match self.keys.least_between(from, self.keys.len()) {
+            Some((_, at)) => Some(at),
+            None => None,
+        }
+    }
+}
