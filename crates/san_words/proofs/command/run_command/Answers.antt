@@ -1,0 +1,11 @@
+use Rattle.std.proofs.Common.{ap, ap₂, ◌∙◌}
+use Rattle.std.proofs.lemmas.Result.{IfOk-weaker}
+use Rattle.clap.specs.Words.{with_rule}
+use Rattle.san_words.specs.Commands.{run_app, with_bounds}
+use Rattle.san_words.proofs.command.run_command.Goals as goal
+
+pub returns : goal.returns
+unfolding run_app
+returns c =
+    let bounds = c.in_ok-with_bounds.ensures ∙ ap with_bounds c.bare.ensures in
+    IfOk-weaker c.arg-3.result _ _ (λ m h. h.shape c.rollbacks_option.ensures.local ∙ ap₂ with_rule (c.in_ok-arg-2.ensures.shape c.window_option.ensures.local ∙ ap₂ with_rule (c.in_ok-arg.ensures.shape c.workers_option.ensures.local ∙ ap₂ with_rule bounds c.workers_option.ensures.rule) c.window_option.ensures.rule) c.rollbacks_option.ensures.rule) c.arg-3.ensures

@@ -1,0 +1,77 @@
+-- What is heard of words.
+use Rattle.std.specs.Prelude.{◌≡◌, ◌<◌, ◌≤◌, ◌^◌, ℕ, List, codes, min, max, Option, None, Some, Result, Ok, Err}
+use Rattle.std.specs.Str.Parse.{digits_value, without_leading_plus, IsNumeral}
+use Rattle.clap.specs.Matches.{found_of, one_text}
+use Rattle.clap.specs.declared.parser.matches.ArgMatches.{ArgMatches}
+use Rattle.clap.specs.Simple.{App, matches_of}
+use Rattle.clap.specs.Walk.{Text, one_of}
+use Rattle.san_base.specs.Limits.{IsInRange}
+use Rattle.san_base.specs.declared.limits.Limits.{Limits}
+use Rattle.san_words.specs.Commands.{IsTaken}
+use Rattle.san_words.specs.declared.finding.Unheard.{Unheard}
+use Rattle.san_words.specs.declared.finding.Unheard.TheVariants as unheard
+use Rattle.san_words.specs.declared.orders.Orders.{Orders}
+use Rattle.san_words.specs.declared.orders.Heard.{Heard}
+use Rattle.san_words.specs.declared.orders.Heard.TheVariants.{Run, Refused, NoMemory}
+
+-- digits, perhaps behind a plus, that write a number of 64 bits
+abbrev pub IsWritten : Text → Type 0
+IsWritten text = IsNumeral 10 (without_leading_plus text) × (digits_value 10 (without_leading_plus text) < 2 ^ 64)
+
+-- the number that is written, or the other one where none is
+abbrev pub Says : ℕ → Option Text → ℕ → Type 0
+Says other None n = n ≡ other
+Says other (Some text) n = (IsWritten text → n ≡ digits_value 10 (without_leading_plus text)) × ((IsWritten text → ⊥) → n ≡ other)
+
+-- a number from the least to the most; a command takes no text that says another
+pub record SaysWithin (least most other : ℕ) (text : Option Text) (n : ℕ) : Type 0 where
+  pub said : ℕ
+  pub says : Says other text said
+  pub within : n ≡ max least (min said most)
+
+-- what an option's text is
+abbrev pub Texts : Type 0
+Texts = Text → Option Text
+
+-- the seed and the bounds of a run
+pub record BoundsSay (texts : Texts) (seed : ℕ) (limits : Limits) : Type 0 where
+  pub seed_said : SaysWithin 0 18446744073709551615 0 (texts (codes "seed")) seed
+  pub horizon_said : SaysWithin 0 1000000000000 0 (texts (codes "horizon")) limits.horizon.0
+  pub burst_said : SaysWithin 1 10000 1000 (texts (codes "burst")) limits.burst
+  pub events_said : SaysWithin 1 10000000 1000000 (texts (codes "events")) limits.events
+
+-- and how it is run ahead
+pub record OrdersSay (texts : Texts) (o : Orders) : Type 0 where
+  pub bounds : BoundsSay texts o.seed o.limits
+  pub window_said : SaysWithin 1 64 16 (texts (codes "window")) o.limits.window
+  pub rollbacks_said : SaysWithin 0 1000000 10000 (texts (codes "rollbacks")) o.limits.rollbacks
+  pub workers_said : SaysWithin 0 64 4 (texts (codes "workers")) o.workers
+
+-- a run in one thread is never ahead
+pub record PlainSay (texts : Texts) (o : Orders) : Type 0 where
+  pub bounds : BoundsSay texts o.seed o.limits
+  pub window : o.limits.window ≡ 16
+  pub rollbacks : o.limits.rollbacks ≡ 10000
+  pub workers : o.workers ≡ 0
+
+-- the texts that a command finds in words
+abbrev pub texts_of : App → List Text → Texts
+texts_of app words id = one_of id (matches_of app words)
+
+-- what a command finds in words, or why it finds nothing
+abbrev pub Finds : App → List Text → Result ArgMatches Unheard → Type 0
+Finds app words (Ok m) = IsTaken app words × ((id : Text) → one_text (found_of m) id ≡ texts_of app words id)
+Finds app words (Err unheard.Refused) = IsTaken app words → ⊥
+Finds app words (Err unheard.NoMemory) = Unit {0}
+
+-- the words are taken, and so is what they say; or they aren't taken
+abbrev pub Hears : (Texts → Orders → Type 0) → App → List Text → Heard → Type 0
+Hears Say app words (Run o) = IsTaken app words × Say (texts_of app words) o
+Hears Say app words Refused = IsTaken app words → ⊥
+Hears Say app words NoMemory = Unit {0}
+
+-- what is heard can be run
+abbrev pub CanRun : Heard → Type 0
+CanRun (Run o) = IsInRange o.limits × (o.workers ≤ 64)
+CanRun Refused = Unit {0}
+CanRun NoMemory = Unit {0}
