@@ -1,6 +1,6 @@
 -- What the loops of a flattening keep, over plain lists.
 use Rattle.std.proofs.Common.{◌≡◌, ℕ, zero, suc, ◌+◌, ◌<◌, ◌≤◌, Bool, true, false, cond, List, [], ◌∷◌, ◌++◌, length, refl, ap, sym, ◌∙◌, subst, arith, map, take, drop, Some, None, filter, nat_eq, append_assoc, append-nil, length-append, get_or, fold}
-use Rattle.std.specs.Prelude.{position, slice_get, slice_index, slice_index_or, is_some}
+use Rattle.std.specs.Prelude.{position, slice_get, slice_index, is_some}
 use Rattle.std.specs.List.{count_by, list_any, position_or_len}
 use Rattle.std.proofs.Math.Bool.{true≢false}
 use Rattle.std.proofs.lemmas.Bool.{le-leb}

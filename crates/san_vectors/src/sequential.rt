@@ -8,10 +8,19 @@ use san_seq::{Seq, Stepped};
 use san_text::parse;
 use std::test::Fail;
 
-/// A text, the seed, the horizon, the limits of burst and events, and the run.
-type OfRun = (&'static [u8], u64, u64, u32, u64, &'static [Event], Ending);
+/// A text, the seed, the horizon, the limits of burst and events, each event's time, activity and
+/// case, and the ending.
+type OfRun = (
+    &'static [u8],
+    u64,
+    u64,
+    u32,
+    u64,
+    &'static [(u64, u32, u32)],
+    Ending,
+);
 
-const fn event(time: u64, act: u32, case: u32) -> Event {
+fn event_of(time: u64, act: u32, case: u32) -> Event {
     Event {
         time: Tick(time),
         act: ActId(act),
@@ -31,7 +40,7 @@ const RUNS: [OfRun; 24] = [
         10,
         1000,
         1000,
-        &[event(3, 0, 0), event(6, 0, 0), event(9, 0, 0)],
+        &[(3, 0, 0), (6, 0, 0), (9, 0, 0)],
         Ending::End(Tick(10)),
     ),
     (
@@ -49,7 +58,7 @@ const RUNS: [OfRun; 24] = [
         9,
         1000,
         1000,
-        &[event(2, 0, 0), event(4, 0, 0), event(9, 1, 0)],
+        &[(2, 0, 0), (4, 0, 0), (9, 1, 0)],
         Ending::End(Tick(9)),
     ),
     (
@@ -67,7 +76,7 @@ const RUNS: [OfRun; 24] = [
         10,
         1000,
         2,
-        &[event(3, 0, 0), event(6, 0, 0)],
+        &[(3, 0, 0), (6, 0, 0)],
         Ending::Stop(Stop::Events(Tick(9))),
     ),
     (
@@ -76,7 +85,7 @@ const RUNS: [OfRun; 24] = [
         9,
         1000,
         1000,
-        &[event(2, 0, 0), event(3, 0, 0)],
+        &[(2, 0, 0), (3, 0, 0)],
         Ending::Stop(Stop::Trap(Trap::Delay, Tick(3), ActId(0))),
     ),
     (
@@ -85,7 +94,7 @@ const RUNS: [OfRun; 24] = [
         5,
         1000,
         1000,
-        &[event(2, 1, 0), event(2, 2, 0), event(2, 0, 0)],
+        &[(2, 1, 0), (2, 2, 0), (2, 0, 0)],
         Ending::End(Tick(5)),
     ),
     (
@@ -94,7 +103,7 @@ const RUNS: [OfRun; 24] = [
         4,
         3,
         1000,
-        &[event(0, 0, 0), event(0, 0, 0), event(0, 0, 0)],
+        &[(0, 0, 0), (0, 0, 0), (0, 0, 0)],
         Ending::Stop(Stop::Unstable(Tick(0))),
     ),
     (
@@ -103,7 +112,7 @@ const RUNS: [OfRun; 24] = [
         4,
         3,
         1000,
-        &[event(0, 0, 0), event(0, 0, 0), event(0, 0, 0)],
+        &[(0, 0, 0), (0, 0, 0), (0, 0, 0)],
         Ending::End(Tick(4)),
     ),
     (
@@ -113,12 +122,12 @@ const RUNS: [OfRun; 24] = [
         1000,
         1000,
         &[
-            event(2, 2, 0),
-            event(3, 1, 0),
-            event(4, 2, 0),
-            event(6, 2, 0),
-            event(8, 0, 0),
-            event(8, 2, 0),
+            (2, 2, 0),
+            (3, 1, 0),
+            (4, 2, 0),
+            (6, 2, 0),
+            (8, 0, 0),
+            (8, 2, 0),
         ],
         Ending::End(Tick(8)),
     ),
@@ -128,7 +137,7 @@ const RUNS: [OfRun; 24] = [
         8,
         1000,
         1000,
-        &[event(3, 1, 0), event(8, 0, 0)],
+        &[(3, 1, 0), (8, 0, 0)],
         Ending::End(Tick(8)),
     ),
     (
@@ -137,7 +146,7 @@ const RUNS: [OfRun; 24] = [
         1,
         1000,
         1000,
-        &[event(0, 1, 0), event(0, 1, 0)],
+        &[(0, 1, 0), (0, 1, 0)],
         Ending::End(Tick(1)),
     ),
     (
@@ -146,7 +155,7 @@ const RUNS: [OfRun; 24] = [
         3,
         1000,
         1000,
-        &[event(3, 0, 0), event(3, 1, 0)],
+        &[(3, 0, 0), (3, 1, 0)],
         Ending::End(Tick(3)),
     ),
     (
@@ -155,12 +164,7 @@ const RUNS: [OfRun; 24] = [
         20,
         1000,
         1000,
-        &[
-            event(5, 0, 0),
-            event(5, 1, 0),
-            event(7, 2, 0),
-            event(9, 2, 0),
-        ],
+        &[(5, 0, 0), (5, 1, 0), (7, 2, 0), (9, 2, 0)],
         Ending::End(Tick(20)),
     ),
     (
@@ -178,7 +182,7 @@ const RUNS: [OfRun; 24] = [
         2,
         1000,
         1000,
-        &[event(1, 0, 1), event(2, 0, 1)],
+        &[(1, 0, 1), (2, 0, 1)],
         Ending::End(Tick(2)),
     ),
     (
@@ -196,7 +200,7 @@ const RUNS: [OfRun; 24] = [
         8,
         1000,
         1000,
-        &[event(6, 0, 0), event(8, 0, 0)],
+        &[(6, 0, 0), (8, 0, 0)],
         Ending::End(Tick(8)),
     ),
     (
@@ -205,7 +209,7 @@ const RUNS: [OfRun; 24] = [
         4,
         1000,
         1000,
-        &[event(1, 0, 0), event(4, 0, 0)],
+        &[(1, 0, 0), (4, 0, 0)],
         Ending::End(Tick(4)),
     ),
     (
@@ -223,7 +227,7 @@ const RUNS: [OfRun; 24] = [
         10,
         1000,
         1000,
-        &[event(5, 0, 0), event(10, 0, 0)],
+        &[(5, 0, 0), (10, 0, 0)],
         Ending::End(Tick(10)),
     ),
     (
@@ -232,7 +236,7 @@ const RUNS: [OfRun; 24] = [
         2,
         1000,
         1000,
-        &[event(1, 0, 0), event(2, 0, 0)],
+        &[(1, 0, 0), (2, 0, 0)],
         Ending::End(Tick(2)),
     ),
     (
@@ -241,7 +245,7 @@ const RUNS: [OfRun; 24] = [
         2,
         1000,
         1000,
-        &[event(1, 0, 0), event(2, 0, 0)],
+        &[(1, 0, 0), (2, 0, 0)],
         Ending::End(Tick(2)),
     ),
     (
@@ -250,7 +254,7 @@ const RUNS: [OfRun; 24] = [
         5,
         1000,
         1000,
-        &[event(1, 0, 0), event(2, 0, 0)],
+        &[(1, 0, 0), (2, 0, 0)],
         Ending::Stop(Stop::Trap(Trap::Index, Tick(3), ActId(0))),
     ),
 ];
@@ -275,29 +279,32 @@ fn trajectories(rt: HostRuntime) -> Result<(), Fail> {
         };
         let seq = Seq::open(rt.alloc(), &flat, *seed, limits).expect(&rt, "open");
         let trajectory = seq.run_all(rt.alloc()).expect(&rt, "run_all");
-        assert_eq!(rt; trajectory.events.as_slice(), *told);
+        assert_eq!(rt; trajectory.events.len(), told.len());
+        for (at, (time, act, case)) in told.iter().enumerate() {
+            let event = trajectory.events.as_slice().get(at).expect(&rt, "event");
+            assert_eq!(rt; *event, event_of(*time, *act, *case));
+        }
         assert_eq!(rt; trajectory.ending, *ending);
     }
     Ok(())
 }
 
-const LIMITS: Limits = Limits {
-    horizon: Tick(5),
-    burst: 3,
-    events: 20,
-    window: 16,
-    rollbacks: 10000,
-};
-
 /// The marking after each step; once the run is over, the same step again.
 #[test]
 fn steps_and_markings(rt: HostRuntime) -> Result<(), Fail> {
     let flat = put_and_get(rt.alloc())?;
-    let mut seq = Seq::open(rt.alloc(), &flat, 7, LIMITS)?;
+    let limits = Limits {
+        horizon: Tick(5),
+        burst: 3,
+        events: 20,
+        window: 16,
+        rollbacks: 10000,
+    };
+    let mut seq = Seq::open(rt.alloc(), &flat, 7, limits)?;
     assert_eq!(rt; seq.marking(), [0, 1, 0].as_slice());
     let steps = [
-        (Stepped::Event(event(2, 0, 0)), [1, 0, 0]),
-        (Stepped::Event(event(2, 1, 0)), [0, 0, 1]),
+        (Stepped::Event(event_of(2, 0, 0)), [1, 0, 0]),
+        (Stepped::Event(event_of(2, 1, 0)), [0, 0, 1]),
         (Stepped::End, [0, 0, 1]),
         (Stepped::End, [0, 0, 1]),
     ];
