@@ -1,11 +1,13 @@
 //! Runs of models by their texts, and the markings on the way of one; all worked out by hand.
 
 use crate::network::put_and_get;
-use san_base::{ActId, Ending, Event, Limits, Stop, Tick, Trap};
+use san_base::{ActId, Ending, Event, Limits, NoMemory, Stop, Tick, Trap};
 use san_check::check;
 use san_flat::flatten;
+use san_net::Flat;
 use san_seq::{Seq, Stepped};
 use san_text::parse;
+use std::alloc::Global;
 use std::test::Fail;
 
 /// A text, the seed, the horizon, the limits of burst and events, each event's time, activity and
@@ -259,25 +261,45 @@ const RUNS: [OfRun; 24] = [
     ),
 ];
 
+/// A run, or none where a limit is out of range.
+fn opened(
+    alloc: Global,
+    flat: &Flat,
+    seed: u64,
+    horizon: u64,
+    burst: u32,
+    events: u64,
+) -> Result<Option<Seq<'_>>, NoMemory> {
+    if horizon > 1000 {
+        return Ok(None);
+    }
+    if burst == 0 || burst > 1000 {
+        return Ok(None);
+    }
+    if events == 0 || events > 1000 {
+        return Ok(None);
+    }
+    let limits = Limits {
+        horizon: Tick(horizon),
+        burst,
+        events,
+        window: 16,
+        rollbacks: 10000,
+    };
+    Ok(Some(Seq::open(alloc, flat, seed, limits)?))
+}
+
 #[test]
 #[tactic(auto, using(crate::proofs::ReadLemmas::read))]
 fn trajectories(rt: HostRuntime) -> Result<(), Fail> {
     for (text, seed, horizon, burst, events, told, ending) in &RUNS {
         assert!(rt; text.len() < 2000);
-        assert!(rt; *horizon <= 20);
-        assert!(rt; *burst >= 1 && *burst <= 1000);
-        assert!(rt; *events >= 1 && *events <= 1000);
         let parsed = parse(rt.alloc(), text).expect(&rt, "parse");
         let model = check(rt.alloc(), &parsed.syntax).expect(&rt, "check");
         let flat = flatten(rt.alloc(), &model).expect(&rt, "flatten");
-        let limits = Limits {
-            horizon: Tick(*horizon),
-            burst: *burst,
-            events: *events,
-            window: 16,
-            rollbacks: 10000,
-        };
-        let seq = Seq::open(rt.alloc(), &flat, *seed, limits).expect(&rt, "open");
+        let seq = opened(rt.alloc(), &flat, *seed, *horizon, *burst, *events)
+            .expect(&rt, "open")
+            .expect(&rt, "limits");
         let trajectory = seq.run_all(rt.alloc()).expect(&rt, "run_all");
         assert_eq!(rt; trajectory.events.len(), told.len());
         for (at, (time, act, case)) in told.iter().enumerate() {
@@ -293,14 +315,7 @@ fn trajectories(rt: HostRuntime) -> Result<(), Fail> {
 #[test]
 fn steps_and_markings(rt: HostRuntime) -> Result<(), Fail> {
     let flat = put_and_get(rt.alloc())?;
-    let limits = Limits {
-        horizon: Tick(5),
-        burst: 3,
-        events: 20,
-        window: 16,
-        rollbacks: 10000,
-    };
-    let mut seq = Seq::open(rt.alloc(), &flat, 7, limits)?;
+    let mut seq = opened(rt.alloc(), &flat, 7, 5, 3, 20)?.ok_or("limits")?;
     assert_eq!(rt; seq.marking(), [0, 1, 0].as_slice());
     let steps = [
         (Stepped::Event(event_of(2, 0, 0)), [1, 0, 0]),
