@@ -4,4 +4,6 @@ pub mod Counting
 pub mod Setting
 pub mod Making
 pub mod Telling
+pub mod Equality
+pub mod Impulses
 pub mod Computed

@@ -1,6 +1,6 @@
 -- What a tally knows and has counted.
-use Rattle.std.specs.Prelude.{ℕ, ◌+◌, ◌*◌, ◌^◌, ◌≤◌, ◌<◌, ◌≡◌, All, List, [], map, replicate, length, slice_index_or, slice_set}
-use Rattle.san_law.specs.Net.{Net, Rated, Span, Nothing, Fresh}
+use Rattle.std.specs.Prelude.{ℕ, ◌+◌, ◌*◌, ◌^◌, ◌≤◌, ◌<◌, ◌≡◌, All, List, [], ◌∷◌, map, replicate, length, slice_index_or, slice_set}
+use Rattle.san_law.specs.Net.{Impulse, Net, Rated, Span, Nothing, Fresh}
 use Rattle.san_law.specs.Reward.{plus, span_of, zero_sum}
 use Rattle.san_law.specs.Tally.{Tally, sum_of, tally_after}
 use Rattle.san_base.specs.declared.ending.Trap.TheVariants.{Arith}
@@ -83,6 +83,11 @@ with_impulse t r w = record t {
     impulses = t.tally.impulses + 1;
   };
 }
+
+-- impulses told one after another
+abbrev pub with_impulses : Running → List Impulse → Running
+with_impulses t [] = t
+with_impulses t (x ∷ xs) = with_impulses (with_impulse t x.reward x.rated) xs
 
 -- what is kept of a tally: the sums of each reward's present rates are at hand, and all sums are small
 pub record IsCounted (t : Running) (present : List Present) : Type 0 where

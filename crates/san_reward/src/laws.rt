@@ -1,9 +1,10 @@
-ghost use Rattle.std.specs.Prelude.{◌≡◌, [], ℕ};
+ghost use Rattle.std.specs.Prelude.{◌≡◌, ◌∷◌, [], ℕ};
 ghost use Rattle.san_law.specs.Net.{Net};
 ghost use Rattle.san_law.specs.Network.{Limits};
+ghost use Rattle.san_law.specs.Step.{Event};
 ghost use Rattle.san_law.specs.Tally.{tally_after, tally_worth};
 ghost use Rattle.san_net.specs.Network.{Network, net_of};
-ghost use Rattle.san_reward.specs.Running.{IsOf, Running, advanced, net_in, opened};
+ghost use Rattle.san_reward.specs.Running.{IsOf, Running, advanced, net_in, opened, with_impulses};
 
 /// A tally that is opened on a network counts this network's rewards, whatever the draws.
 #[tactic(auto, using(crate::proofs::Telling::opened_of))]
@@ -20,4 +21,11 @@ pub fn a_tally_counts_its_networks_rewards()
         → tally_after net t.tally t.time to [] ≡ (advanced t to).tally }
     ensures worth { (net : Net) (t : Running) → IsOf net t → (r : ℕ)
         → tally_worth net t.tally t.time r ≡ tally_worth (net_in t) t.tally t.time r }
+{}
+
+/// Impulses that are told one after another at an event's time are what the law counts of the event.
+#[tactic(auto, using(crate::proofs::Impulses::event_same))]
+pub fn impulses_are_those_of_the_event()
+    ensures { (net : Net) (t : Running) → IsOf net t → (e : Event) → e.time ≡ t.time
+        → tally_after net t.tally t.time t.time (e ∷ []) ≡ (with_impulses t e.impulses).tally }
 {}

@@ -4,6 +4,7 @@
 
 mod bounds;
 mod copying;
+mod equal;
 mod laws;
 mod leaves;
 mod present;
@@ -14,7 +15,10 @@ mod worth;
 mod zeros;
 
 pub use bounds::rated;
-pub use laws::{a_tally_counts_its_networks_rewards, an_opened_tally_is_of_its_network};
+pub use laws::{
+    a_tally_counts_its_networks_rewards, an_opened_tally_is_of_its_network,
+    impulses_are_those_of_the_event,
+};
 pub use rows::{a_fault_in_a_reward, three_rewards};
 pub use tally::Tally;
 pub use term::Rated;

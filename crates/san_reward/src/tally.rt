@@ -6,6 +6,7 @@ ghost use Rattle.san_reward.specs.Worth.{worth_told};
 
 use crate::bounds::told;
 use crate::copying::{copied, copied_lists};
+use crate::equal::{same_rate_lists, same_spans, same_sums, same_terms};
 use crate::leaves::{add, put_rate, replace, reward_of};
 use crate::present::{Present, count_on, counted, end, gone_on, overlap};
 use crate::term::Rated;
@@ -88,6 +89,19 @@ impl Tally {
             present,
             sums,
         })
+    }
+
+    /// Whether two tallies are equal. An interval of one tick is that tick.
+    pub fn same(&self, other: &Tally) -> bool
+        ensures { IsTrue result ↔ (self.now ≡ other.now) }
+    {
+        self.horizon == other.horizon
+            && self.time == other.time
+            && self.impulses == other.impulses
+            && same_spans(&self.spans, &other.spans)
+            && same_terms(&self.terms, &other.terms)
+            && same_rate_lists(&self.rates, &other.rates)
+            && same_sums(&self.sums, &other.sums)
     }
 
     /// Counts the present rates for the ticks from the present time to before a time, which is the
