@@ -6,4 +6,6 @@ pub mod Making
 pub mod Telling
 pub mod Equality
 pub mod Impulses
+pub mod CellsRead
+pub mod RatesSet
 pub mod Computed

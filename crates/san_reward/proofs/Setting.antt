@@ -14,7 +14,7 @@ use Rattle.san_law.specs.Net.{Rated}
 use Rattle.san_law.specs.Reward.{is_within, no_span, plus, span_of, zero_sum}
 use Rattle.san_law.specs.Tally.{sum_of}
 use Rattle.san_reward.specs.Present.{IsAtMost, counted_at, amount, amount_in, amounts, fault, faults, faults_in, no_present, present_at, present_of, replaced}
-use Rattle.san_reward.specs.Running.{IsCounted, Running, net_in, rates_with, with_impulse, with_rate}
+use Rattle.san_reward.specs.Running.{IsCounted, Running, net_in, rates_with, with_all_rates, with_impulse, with_rate}
 use Rattle.san_reward.specs.declared.present.Present.{Present}
 
 abbrev part : ℕ → ℕ → Rated → ℤ
@@ -203,10 +203,7 @@ impulse_counted t present r w c few h = record {
     by_reward s (inl e) = rw e.1 (inside (nat_lt r (length t.tally.sums)) refl)
     by_reward s (inr d) = rw (get_or-set_other t.tally.sums r s (plus (sum_of t.tally r) added) zero_sum d.1) (wider (t.time * 2 ^ 79 + t.tally.impulses * 2 ^ 63) bound (sum_of t.tally s) (omega arith) (c.small s))
 
--- a tally with these rates, or with these sums and an impulse more
-abbrev pub with_rates : Running → List (List Rated) → Running
-with_rates t rates = record t { tally = record { rates = rates; sums = t.tally.sums; impulses = t.tally.impulses } }
-
+-- a tally with these sums and an impulse more
 abbrev pub with_told : Running → List Rated → Running
 with_told t sums = record t { tally = record { rates = t.tally.rates; sums = sums; impulses = t.tally.impulses + 1 } }
 
@@ -238,11 +235,11 @@ module _ (t u : Running) (present : List Present) (j k : ℕ) (e : u ≡ t) (c :
       pub fault_in : fault v ≤ (present_at present q).faults
       fault_in = let low = fault_within k j q t.terms t.tally.rates is leaf_in leaf_of_rates term_in rates_in in let same = ap (λ (p : Present). p.faults) (c.each q reward_of_tally) in let one = ap fault was in omega (arith, low, same, one)
 
-      pub rate_keeps : (w : Rated) (rates : List (List Rated)) (now : List Present) → IsAtMost (2 ^ 63) w → rates ≡ rates_with t.tally.rates j k w → now ≡ slice_set present q (replaced (present_at present q) v w) → IsCounted (with_rates t rates) now
-      rate_keeps w rates now small a b = subst (λ ps. IsCounted (with_rates t rates) ps) (sym b) (subst (λ rs. IsCounted (with_rates t rs) (slice_set present q (replaced (present_at present q) v w))) (sym a) (rate_counted t present j k q w v c leaf_in term_in small is was))
+      pub rate_keeps : (w : Rated) (rates : List (List Rated)) (now : List Present) → IsAtMost (2 ^ 63) w → rates ≡ rates_with t.tally.rates j k w → now ≡ slice_set present q (replaced (present_at present q) v w) → IsCounted (with_all_rates t rates) now
+      rate_keeps w rates now small a b = subst (λ ps. IsCounted (with_all_rates t rates) ps) (sym b) (subst (λ rs. IsCounted (with_all_rates t rs) (slice_set present q (replaced (present_at present q) v w))) (sym a) (rate_counted t present j k q w v c leaf_in term_in small is was))
 
-  pub rate_ends : (w : Rated) (rates : List (List Rated)) → rates ≡ rates_with t.tally.rates j k w → with_rates t rates ≡ with_rate u j k w
-  rate_ends w rates a = ap (with_rates t) a ∙ ap (λ x. with_rate x j k w) (sym e)
+  pub rate_ends : (w : Rated) (rates : List (List Rated)) → rates ≡ rates_with t.tally.rates j k w → with_all_rates t rates ≡ with_rate u j k w
+  rate_ends w rates a = ap (with_all_rates t) a ∙ ap (λ x. with_rate x j k w) (sym e)
 
 -- an impulse's reward is one of them
 module _ (t u : Running) (present : List Present) (r : ℕ) (w added : Rated) (s : interval.Span) (spans : List interval.Span) (sums : List Rated) (e : u ≡ t) (c : IsCounted t present) (h : r < length u.spans) (f : t.spans ≡ map span_in spans) (a : s ≡ slice_index_or spans r s) (is : added ≡ counted_at (span_in s) t.time w) (puts : sums ≡ slice_set t.tally.sums r (plus (sum_of t.tally r) added)) where

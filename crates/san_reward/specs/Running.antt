@@ -5,6 +5,9 @@ use Rattle.san_law.specs.Reward.{plus, span_of, zero_sum}
 use Rattle.san_law.specs.Tally.{Tally, sum_of, tally_after}
 use Rattle.san_base.specs.declared.ending.Trap.TheVariants.{Arith}
 use Rattle.std.specs.Prelude.{Err, false}
+use Rattle.san_law.specs.State.{gather}
+use Rattle.san_net.specs.Laid.{places_of}
+use Rattle.san_net.specs.Leaf.{rate_in}
 use Rattle.san_net.specs.Network.{Network, span_in}
 use Rattle.san_net.specs.declared.part.Part.{Part}
 use Rattle.san_net.specs.declared.part.Span as reward
@@ -50,6 +53,13 @@ pub record IsOf (net : Net) (t : Running) : Type 0 where
 abbrev pub terms_in : Part → List ℕ
 terms_in p = map (λ t. t.reward) p.atomic.rates
 
+-- the values of a leaf's rate terms in a marking, as they are told, and those of all leaves
+abbrev pub rates_of : List ℕ → Part → List Rated
+rates_of marking p = map (rate_in (gather (places_of p) marking)) p.atomic.rates
+
+abbrev pub rates_in : Network → List ℕ → List (List Rated)
+rates_in n marking = map (rates_of marking) n.parts
+
 abbrev pub no_rates : Part → List Rated
 no_rates p = replicate (length p.atomic.rates) zero_sum
 
@@ -73,6 +83,13 @@ rates_with rates j k w = slice_set rates j (slice_set (slice_index_or rates j []
 
 abbrev pub with_rate : Running → ℕ → ℕ → Rated → Running
 with_rate t j k w = record t { tally = record { rates = rates_with t.tally.rates j k w; sums = t.tally.sums; impulses = t.tally.impulses } }
+
+-- another list of a leaf's rates, and other lists of all leaves' rates
+abbrev pub with_leaf_rates : Running → ℕ → List Rated → Running
+with_leaf_rates t j ws = record t { tally = record { rates = slice_set t.tally.rates j ws; sums = t.tally.sums; impulses = t.tally.impulses } }
+
+abbrev pub with_all_rates : Running → List (List Rated) → Running
+with_all_rates t rates = record t { tally = record { rates = rates; sums = t.tally.sums; impulses = t.tally.impulses } }
 
 -- an impulse at the present time, counted where its reward's interval has this time
 abbrev pub with_impulse : Running → ℕ → Rated → Running

@@ -6,20 +6,20 @@ ghost use Rattle.san_reward.specs.Running.{rates_with};
 use crate::present::{Present, amount, fault, plus};
 
 /// The reward of a leaf's term.
-pub(crate) fn reward_of(terms: &Vec<Vec<u32>>, leaf: u32, term: u32) -> u32
+pub(crate) fn reward_of(terms: &Vec<Vec<u32>>, leaf: u32, term: usize) -> u32
     requires leaf { leaf < length terms.now.items }
     requires term { term < length (slice_index_or (map (λ v. v.items) terms.now.items) leaf []) }
     ensures { result ≡ slice_index_or (slice_index_or (map (λ v. v.items) terms.now.items) leaf
         []) term 0 }
 {
-    terms[leaf as usize][term as usize]
+    terms[leaf as usize][term]
 }
 
 /// Sets the rate of a leaf's term, and gives the one before.
 pub(crate) fn put_rate(
     rates: &mut Vec<Vec<Option<i64>>>,
     leaf: u32,
-    term: u32,
+    term: usize,
     new: Option<i64>,
 ) -> Option<i64>
     requires leaf { leaf < length rates.old.items }
@@ -32,8 +32,8 @@ pub(crate) fn put_rate(
         term new }
 {
     let of_leaf = &mut rates[leaf as usize];
-    let old = of_leaf[term as usize];
-    of_leaf[term as usize] = new;
+    let old = of_leaf[term];
+    of_leaf[term] = new;
     old
 }
 

@@ -3,11 +3,13 @@
 #![tactic(auto)]
 
 mod bounds;
+mod cells;
 mod copying;
 mod equal;
 mod laws;
 mod leaves;
 mod present;
+mod rating;
 mod rows;
 mod tally;
 mod term;

@@ -116,8 +116,24 @@ impl Tally {
         count_on(&mut self.sums, &self.present, &self.spans, from.0, to.0);
     }
 
+    /// A tally has a rate for each term of each leaf.
+    pub fn has_a_rate_for_each_term(&self)
+        ensures { map length self.now.tally.rates ≡ map length self.now.terms }
+    {
+        let _ = &self.horizon;
+    }
+
     /// Sets the rate of a leaf's term from the present time on.
     pub fn rate(&mut self, leaf: LeafId, term: u32, rated: Rated)
+        requires leaf { leaf.0 < length self.old.terms }
+        requires term { term < length (slice_index_or self.old.terms leaf.0 []) }
+        ensures { self.new ≡ with_rate self.old leaf.0 term (told rated) }
+    {
+        self.set(leaf, term as usize, rated);
+    }
+
+    /// The same for any number of a term.
+    pub(crate) fn set(&mut self, leaf: LeafId, term: usize, rated: Rated)
         requires leaf { leaf.0 < length self.old.terms }
         requires term { term < length (slice_index_or self.old.terms leaf.0 []) }
         ensures { self.new ≡ with_rate self.old leaf.0 term (told rated) }

@@ -3,7 +3,7 @@ use Rattle.san_reward.specs.Present.{IsAtMost}
 use Rattle.san_reward.specs.contracts.tally.Tally.{the_view}
 use Rattle.san_reward.proofs.Counting.{present_small}
 use Rattle.san_reward.proofs.Setting.{fault_in, faults_few, rate_keeps, rates_in}
-use Rattle.san_reward.proofs.tally.Tally.rate.Goals as goal
+use Rattle.san_reward.proofs.tally.Tally.set.Goals as goal
 
 pub put_rate-old-requires-clause-term : goal.put_rate-old-requires-clause-term
 put_rate-old-requires-clause-term c = rates_in (the_view c.self.inside) c.args.self.now c.self.inside.present.items c.args.leaf.0 c.args.term (sym c.self.view_is) c.self.invariant c.requires.leaf c.requires.term
