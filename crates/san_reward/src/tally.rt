@@ -116,6 +116,14 @@ impl Tally {
         count_on(&mut self.sums, &self.present, &self.spans, from.0, to.0);
     }
 
+    /// How many rate terms a leaf has.
+    pub fn terms(&self, leaf: LeafId) -> usize
+        requires { leaf.0 < length self.now.terms }
+        ensures { result ≡ length (slice_index_or self.now.terms leaf.0 []) }
+    {
+        self.terms[leaf.0 as usize].len()
+    }
+
     /// A tally has a rate for each term of each leaf.
     pub fn has_a_rate_for_each_term(&self)
         ensures { map length self.now.tally.rates ≡ map length self.now.terms }

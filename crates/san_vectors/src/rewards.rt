@@ -1,9 +1,34 @@
 //! Rewards of a small run that were worked out by hand.
 
 use crate::network::put_and_get;
-use san_base::Tick;
+use san_base::{LeafId, Tick};
+use san_check::check;
+use san_flat::flatten;
+use san_net::Flat;
 use san_reward::{Rated, Tally, Worth, rated};
+use san_text::parse;
+use std::alloc::Global;
 use std::test::Fail;
+
+const COUNTER: &[u8] =
+    b"san 1;\natomic x { place p = 1; place n; timed tick { in p; delay det 3; out p; out n; } }\nsystem x;\nreward r on x over 0 10 { rate n; impulse tick 5; }\nreward m on x mean 0 10 { rate n; impulse tick 5; }\nreward i on x at 6 { rate n; }\n";
+
+const FAULTY_COUNTER: &[u8] =
+    b"san 1;\natomic x { place p = 1; place n; timed tick { in p; delay det 3; out p; out n; } }\nsystem x;\nreward r on x over 0 10 { rate 1 / n; impulse tick 5; }\nreward m on x mean 0 10 { rate n; impulse tick 5; }\nreward i on x at 6 { rate n; }\n";
+
+const PROCESSORS: &[u8] =
+    b"san 1;\natomic cpu { place up = 1; place failed; timed fail { in up; delay det 5; out failed; } }\natomic crew { place failed; timed fix { in failed; delay det 2; } }\nrep cpus = cpu times 2 { share failed; }\njoin sys {\n  child cpus = cpus; child repair = crew;\n  share failed = cpus.failed, repair.failed;\n}\nsystem sys;\nreward lost on cpu over 0 20 { rate 1 - up; impulse fail 10; }\nreward queue on crew mean 0 20 { rate failed; }\n";
+
+/// The network of a text, where it is a model's that has one.
+#[tactic(auto, using(crate::proofs::ReadLemmas::read))]
+fn network(alloc: Global, text: &[u8]) -> Option<Flat> {
+    if text.len() > 67108864 {
+        return None;
+    }
+    let parsed = parse(alloc, text).ok()?;
+    let model = check(alloc, &parsed.syntax).ok()?;
+    flatten(alloc, &model).ok()
+}
 
 /// The network's reward is at tick 6: the impulse at 5 is before it, and the one at 7 behind it.
 #[test]
@@ -30,5 +55,83 @@ fn values_of_terms(rt: HostRuntime) -> Result<(), Fail> {
     assert_eq!(rt; rated(Ok(1000000001)), Rated::Fault);
     assert_eq!(rt; rated(Ok(-1000000000)), Rated::Value(-1000000000));
     assert_eq!(rt; rated(Ok(-1000000001)), Rated::Fault);
+    Ok(())
+}
+
+/// Completions at 3, 6 and 9, told with the marking, the leaf's marking or the leaf's rates.
+#[test]
+fn three_rewards(rt: HostRuntime) -> Result<(), Fail> {
+    let flat = network(rt.alloc(), COUNTER).expect(&rt, "network");
+    assert!(rt; flat.leaves() == 1);
+    assert!(rt; flat.places() == 2);
+    assert!(rt; flat.rewards().len() == 3);
+    let mut tally = Tally::open(rt.alloc(), &flat, Tick(10))?;
+    tally.rate_all(&flat, &[1, 0]);
+    tally.advance(Tick(3));
+    tally.impulse(0, Rated::Value(5));
+    tally.impulse(1, Rated::Value(5));
+    tally.rate_all(&flat, &[1, 1]);
+    let copy = tally.copy(rt.alloc())?;
+    assert!(rt; copy.same(&tally));
+    tally.advance(Tick(6));
+    tally.impulse(0, Rated::Value(5));
+    tally.impulse(1, Rated::Value(5));
+    tally.rate_of_leaf(&flat, LeafId(0), &[1, 2]);
+    assert!(rt; !copy.same(&tally));
+    tally.advance(Tick(9));
+    tally.impulse(0, Rated::Value(5));
+    tally.impulse(1, Rated::Value(5));
+    assert!(rt; tally.terms(LeafId(0)) == 3);
+    tally.rate_leaf(
+        LeafId(0),
+        &[Rated::Value(3), Rated::Value(3), Rated::Value(3)],
+    );
+    assert_eq!(rt; tally.value(0), Worth::Sum(27));
+    assert_eq!(rt; tally.value(1), Worth::Mean(27, 10));
+    assert_eq!(rt; tally.value(2), Worth::Sum(2));
+    Ok(())
+}
+
+/// Intervals that end behind the horizon, and a rate that traps at the first ticks.
+#[test]
+fn beyond_and_fault(rt: HostRuntime) -> Result<(), Fail> {
+    let flat = network(rt.alloc(), FAULTY_COUNTER).expect(&rt, "network");
+    assert!(rt; flat.places() == 2);
+    assert!(rt; flat.rewards().len() == 3);
+    let mut early = Tally::open(rt.alloc(), &flat, Tick(8))?;
+    early.rate_all(&flat, &[1, 0]);
+    early.advance(Tick(6));
+    early.rate_all(&flat, &[1, 2]);
+    assert_eq!(rt; early.value(0), Worth::Beyond);
+    assert_eq!(rt; early.value(1), Worth::Beyond);
+    assert_eq!(rt; early.value(2), Worth::Sum(2));
+    let mut tally = Tally::open(rt.alloc(), &flat, Tick(10))?;
+    tally.rate_all(&flat, &[1, 0]);
+    tally.advance(Tick(3));
+    tally.rate_all(&flat, &[1, 1]);
+    assert_eq!(rt; tally.value(0), Worth::Fault);
+    assert_eq!(rt; tally.value(1), Worth::Mean(7, 10));
+    Ok(())
+}
+
+/// Both processors fail at 5, and the crew repairs them at 7 and 9.
+#[test]
+fn two_processors_and_one_crew(rt: HostRuntime) -> Result<(), Fail> {
+    let flat = network(rt.alloc(), PROCESSORS).expect(&rt, "network");
+    assert!(rt; flat.leaves() == 3);
+    assert!(rt; flat.places() == 3);
+    assert!(rt; flat.rewards().len() == 2);
+    let mut tally = Tally::open(rt.alloc(), &flat, Tick(20))?;
+    tally.rate_all(&flat, &[0, 1, 1]);
+    tally.advance(Tick(5));
+    tally.impulse(0, Rated::Value(10));
+    tally.impulse(0, Rated::Value(10));
+    tally.rate_all(&flat, &[2, 0, 0]);
+    tally.advance(Tick(7));
+    tally.rate_of_leaf(&flat, LeafId(2), &[1, 0, 0]);
+    tally.advance(Tick(9));
+    tally.rate_of_leaf(&flat, LeafId(2), &[0, 0, 0]);
+    assert_eq!(rt; tally.value(0), Worth::Sum(50));
+    assert_eq!(rt; tally.value(1), Worth::Mean(6, 20));
     Ok(())
 }
