@@ -2,5 +2,5 @@ pub mod Draws
 pub mod Flow
 pub mod Limits
 pub mod Memory
-pub mod Plain
+pub mod Rated
 pub mod Status

@@ -1,29 +1,31 @@
 //! What every crate of the simulator speaks of: numbers, answers, text, and the outside.
 #![tactic(auto)]
 
+mod bounds;
 mod ending;
 mod limits;
 mod memory;
 mod name;
 mod numbers;
 mod op;
-mod plain;
 mod shared;
 mod sink;
 mod source;
 mod status;
 mod sure;
+mod term;
 
+pub use bounds::rated;
 pub use ending::{Ending, Event, Stop, Trap};
 pub use limits::Limits;
 pub use memory::{MemSink, MemSource};
 pub use name::Name;
 pub use numbers::{ActId, LeafId, NoMemory, PlaceId, Tick};
 pub use op::Op;
-pub use plain::Plain;
 pub use shared::Shared;
 pub use sink::{Put, Sink, put_all};
 pub use source::{Read, Source, Taking, take_all};
 pub use sqlite_items::{Boxed, Items};
 pub use status::Status;
 pub use sure::{SureSink, SureSource};
+pub use term::Rated;

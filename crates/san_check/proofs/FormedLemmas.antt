@@ -45,7 +45,7 @@ lex_within skip at [] = omega arith
 lex_within (suc k) at (b ∷ bs) = more_within (length bs) (lex k (suc at) bs) (lex_within k (suc at) bs)
 lex_within zero at (b ∷ bs) = grown_within (length bs) at (front b bs) (lex (more (front b bs)) (suc at) bs) (lex_within (more (front b bs)) (suc at) bs)
 
-tokens_within : (text : List ℕ) (found : List Placed) → tokens text ≡ Ok found → length found ≤ length text
+pub tokens_within : (text : List ℕ) (found : List Placed) → tokens text ≡ Ok found → length found ≤ length text
 unfolding tokens
 tokens_within text found e = subst (Within (length text)) e (lex_within 0 0 text)
 

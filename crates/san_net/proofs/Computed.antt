@@ -30,7 +30,7 @@ use Rattle.san_net.specs.Leaf.{effected_by, enabled_in, first_in, impulses_in, k
 use Rattle.san_net.specs.Lengths.{has_lengths, lengths_step}
 use Rattle.san_net.specs.Names.{is_name}
 use Rattle.san_net.specs.Numbering.{ordered, repeated}
-use Rattle.san_net.specs.Rated.{in_bounds}
+use Rattle.san_base.specs.Rated.{in_bounds}
 use Rattle.san_net.specs.Tables.{importers_of, leaves_of_acts}
 use Rattle.san_net.specs.declared.activity.Activity.{Activity}
 use Rattle.san_net.specs.declared.activity.Case.{Case}

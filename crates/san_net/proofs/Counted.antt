@@ -21,7 +21,7 @@ use Rattle.san_net.specs.Completion.{inputs_of, outputs_of, case_outputs}
 use Rattle.san_net.specs.Examples.{counting_to, one_case}
 use Rattle.san_net.specs.Leaf.{answer_by, effected_by}
 use Rattle.san_net.specs.Enabled.{all_hold}
-use Rattle.san_net.specs.Rated.{rated_by}
+use Rattle.san_base.specs.Rated.{rated_by}
 use Rattle.san_net.specs.declared.activity.Input.{Input}
 use Rattle.san_net.specs.declared.activity.Input.TheVariants as input
 use Rattle.san_net.specs.declared.activity.Case.{Case}

@@ -12,7 +12,7 @@ use Rattle.san_net.specs.Completion.{completion_of}
 use Rattle.san_net.specs.Enabled.{enabled_of, truth_of}
 use Rattle.san_net.specs.First.{first_of}
 use Rattle.san_net.specs.Instants.{Named}
-use Rattle.san_net.specs.Rated.{rated_by}
+use Rattle.san_base.specs.Rated.{rated_by}
 use Rattle.san_net.specs.declared.activity.ActKind.{ActKind}
 use Rattle.san_net.specs.declared.activity.ActKind.TheVariants as kind
 use Rattle.san_net.specs.declared.activity.Activity.{Activity}

@@ -9,7 +9,6 @@ pub mod Names
 pub mod Lengths
 pub mod Instants
 pub mod Accepted
-pub mod Rated
 pub mod Leaf
 pub mod Network
 pub mod Numbering

@@ -9,7 +9,7 @@ ghost use Rattle.san_net.specs.Instants.{instants_of};
 ghost use Rattle.san_net.specs.Laid.{IsNetwork, all_places};
 ghost use Rattle.san_net.specs.Leaf.{enabled_in, first_in};
 ghost use Rattle.san_net.specs.Numbering.{ordered, repeated};
-ghost use Rattle.san_net.specs.Rated.{in_bounds};
+ghost use Rattle.san_base.specs.Rated.{in_bounds};
 ghost use Rattle.san_net.specs.Tables.{importers_of, leaves_of_acts};
 
 /// Two leaves that share a place are a network.

@@ -11,12 +11,12 @@ use Rattle.san_law.specs.Lawful.{AllBelow}
 use Rattle.san_law.specs.State.{gather}
 use Rattle.san_net.specs.Laid.{place_of}
 use Rattle.san_net.specs.Leaf.{rate_in}
-use Rattle.san_net.specs.Rated.{rated_by}
+use Rattle.san_base.specs.Rated.{rated_by}
 use Rattle.san_net.specs.declared.atomic.RateTerm.{RateTerm}
 use Rattle.san_net.specs.declared.part.Slot.{Slot}
 use Rattle.san_net.specs.declared.part.Slot.TheVariants.{Private}
-use Rattle.san_reward.specs.Rated.{told}
-use Rattle.san_reward.specs.declared.term.Rated.{Rated}
+use Rattle.san_base.specs.Rated.{told}
+use Rattle.san_base.specs.declared.term.Rated.{Rated}
 
 gathered : (places marking : List ℕ) (k : ℕ) → k < length places → slice_get (gather places marking) k ≡ Some (slice_index marking (slice_index places k))
 gathered [] marking k h = absurd (omega (arith, h))

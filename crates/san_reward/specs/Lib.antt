@@ -1,4 +1,3 @@
-pub mod Rated
 pub mod Present
 pub mod Running
 pub mod Worth

@@ -5,10 +5,9 @@ ghost use Rattle.san_law.specs.Lawful.{AllBelow};
 ghost use Rattle.san_law.specs.State.{gather};
 ghost use Rattle.san_net.specs.Laid.{place_of};
 ghost use Rattle.san_net.specs.Leaf.{rate_in};
-ghost use Rattle.san_reward.specs.Rated.{told};
+ghost use Rattle.san_base.specs.Rated.{told};
 
-use crate::bounds::rated;
-use crate::term::Rated;
+use san_base::{Rated, rated};
 use san_expr::{Marked, eval};
 use san_net::{RateTerm, Slot};
 use std::marker::Model;

@@ -12,16 +12,14 @@ mod present;
 mod rating;
 mod rows;
 mod tally;
-mod term;
 mod worth;
 mod zeros;
 
-pub use bounds::rated;
 pub use laws::{
     a_tally_counts_its_networks_rewards, an_opened_tally_is_of_its_network,
     impulses_are_those_of_the_event,
 };
 pub use rows::{a_fault_in_a_reward, three_rewards};
+pub use san_base::{Rated, rated};
 pub use tally::Tally;
-pub use term::Rated;
 pub use worth::Worth;

@@ -5,13 +5,12 @@ ghost use Rattle.san_law.specs.Network.{Limits};
 ghost use Rattle.san_law.specs.Reward.{rates_from};
 ghost use Rattle.san_net.specs.Laid.{places_of};
 ghost use Rattle.san_net.specs.Network.{net_of};
-ghost use Rattle.san_reward.specs.Rated.{told};
+ghost use Rattle.san_base.specs.Rated.{told};
 ghost use Rattle.san_reward.specs.Running.{rates_in, rates_of, terms_in, with_all_rates, with_leaf_rates};
 
 use crate::cells::rate_in;
 use crate::tally::Tally;
-use crate::term::Rated;
-use san_base::LeafId;
+use san_base::{LeafId, Rated};
 use san_net::{Flat, Part};
 
 impl Tally {

@@ -1,7 +1,7 @@
 ghost use Rattle.std.specs.Prelude.{◌≡◌, ◌↔◌, ◌<◌, ◌≤◌, ◌^◌, [], ℕ, IfOk, IsTrue, length, map, slice_index_or};
 ghost use Rattle.san_law.specs.Tally.{tally_worth};
 ghost use Rattle.san_reward.specs.Running.{advanced, net_in, opened, with_impulse, with_rate};
-ghost use Rattle.san_reward.specs.Rated.{told};
+ghost use Rattle.san_base.specs.Rated.{told};
 ghost use Rattle.san_reward.specs.Worth.{worth_told};
 
 use crate::bounds::told;
@@ -9,10 +9,9 @@ use crate::copying::{copied, copied_lists};
 use crate::equal::{same_rate_lists, same_spans, same_sums, same_terms};
 use crate::leaves::{add, put_rate, replace, reward_of};
 use crate::present::{Present, count_on, counted, end, gone_on, overlap};
-use crate::term::Rated;
 use crate::worth::{Worth, worth_by};
 use crate::zeros::{no_presents, no_sums, rates_table, spans_of, terms_table};
-use san_base::{LeafId, NoMemory, Tick};
+use san_base::{LeafId, NoMemory, Rated, Tick};
 use san_net::{Flat, Span};
 use std::alloc::Global;
 use std::marker::Model;

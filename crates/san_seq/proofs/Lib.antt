@@ -1,4 +1,3 @@
-pub mod StepLemmas
 pub mod LeafViewLemmas
 pub mod NextLemmas
 pub mod PartLemmas

@@ -19,7 +19,6 @@ mod opening;
 mod renewal;
 mod renewing;
 mod rows;
-mod run;
 mod state;
 mod stepping;
 mod steps;
@@ -30,5 +29,4 @@ pub use flat_run::Seq;
 pub use laws::{
     a_run_comes_to_its_end, events_are_the_first, events_are_the_laws, events_come_in_time,
 };
-pub use run::PlainRun;
 pub use steps::{Stepped, Trajectory};

@@ -1,4 +1,3 @@
-pub mod WordLemmas
 pub mod ManyLemmas
 pub mod LoopLemmas
 pub mod SpotLemmas

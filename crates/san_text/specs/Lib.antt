@@ -1,5 +1,3 @@
-pub mod First
-pub mod Word
 pub mod Words
 pub mod Reading
 pub mod Expressions

@@ -1,11 +1,9 @@
-//! Reads model texts: what a text parses to, or its first fault. Texts of the first form, which
-//! have one atomic with one place and one timed activity, have a reader of their own.
+//! Reads model texts: what a text parses to, or its first fault.
 #![tactic(auto)]
 
 mod act;
 mod delay;
 mod expr;
-mod first;
 mod input;
 mod laws;
 mod model;
@@ -18,10 +16,8 @@ mod stmt;
 mod syntax;
 mod text;
 mod whole;
-mod word;
 mod words;
 
-pub use first::{FirstFault, parse_first};
 pub use laws::{
     activity_is_read_again, agreeing_texts_are_refused_there_too, block_is_read_again,
     expression_is_read_again, model_is_read_again, reward_is_read_again,
@@ -34,4 +30,3 @@ pub use syntax::{
     PlaceDecl, RewardDecl, ShareDecl, SpanDecl, StmtDecl, Syntax, TermDecl, Timing,
 };
 pub use text::{ParseFault, Parsed, Refusal, parse, spot};
-pub use word::value_of;

@@ -110,10 +110,26 @@ fn home(
     }
 }
 
+/// A tree, the path of a leaf, its place, and the depth and place of the home.
+type HomeRow<'a> = (&'a [Shape], &'a [u32], u32, (u32, u32));
+
+/// The first row whose home is another.
+fn wrong_home(alloc: Global, rows: &[HomeRow<'_>]) -> Result<Option<usize>, NoMemory> {
+    for (at, (shapes, path, place, (depth, of_place))) in rows.iter().enumerate() {
+        let want = Home {
+            depth: *depth,
+            place: *of_place,
+        };
+        if home(alloc, *shapes, *path, *place)? != Some(want) {
+            return Ok(Some(at));
+        }
+    }
+    Ok(None)
+}
+
 #[test]
 fn homes(rt: HostRuntime) -> Result<(), Fail> {
-    let alloc = rt.alloc();
-    let table: [(&[Shape], &[u32], u32, (u32, u32)); 22] = [
+    let table: [HomeRow<'_>; 22] = [
         (&PAIR, &[0], 0, (1, 0)),
         (&PAIR, &[1], 0, (1, 0)),
         (&LOW_HIGH, &[0], 0, (0, 0)),
@@ -137,10 +153,7 @@ fn homes(rt: HostRuntime) -> Result<(), Fail> {
         (&NESTED, &[1, 0, 2], 2, (0, 0)),
         (&NESTED, &[1, 1, 0], 1, (2, 0)),
     ];
-    for (shapes, path, at, (depth, place)) in table {
-        let want = Home { depth, place };
-        assert_eq!(rt; home(alloc, shapes, path, at)?, Some(want), "{path:?} {at}");
-    }
+    assert_eq!(rt; wrong_home(rt.alloc(), &table)?, None);
     Ok(())
 }
 
@@ -152,10 +165,21 @@ fn leaves(alloc: Global, shapes: &[Shape]) -> Result<Option<(u32, usize)>, NoMem
     }
 }
 
+type CountRow<'a> = (&'a [Shape], Option<(u32, usize)>);
+
+/// The first row whose numbers of leaves are others.
+fn wrong_count(alloc: Global, rows: &[CountRow<'_>]) -> Result<Option<usize>, NoMemory> {
+    for (at, (shapes, want)) in rows.iter().enumerate() {
+        if leaves(alloc, *shapes)? != *want {
+            return Ok(Some(at));
+        }
+    }
+    Ok(None)
+}
+
 #[test]
 fn leaf_counts(rt: HostRuntime) -> Result<(), Fail> {
-    let alloc = rt.alloc();
-    let table: [(&[Shape], Option<(u32, usize)>); 14] = [
+    let table: [CountRow<'_>; 14] = [
         (&[Leaf(0)], Some((1, 1))),
         (&PAIR, Some((2, 2))),
         (&LOW_HIGH, Some((2, 2))),
@@ -174,9 +198,7 @@ fn leaf_counts(rt: HostRuntime) -> Result<(), Fail> {
         (&[Leaf(0), Rep(1, 1, &[])], None),
         (&[Leaf(0), Join(&[0, 1], &[])], None),
     ];
-    for (shapes, want) in table {
-        assert_eq!(rt; leaves(alloc, shapes)?, want, "{shapes:?}");
-    }
+    assert_eq!(rt; wrong_count(rt.alloc(), &table)?, None);
     Ok(())
 }
 
@@ -194,17 +216,26 @@ fn walked(alloc: Global, shapes: &[Shape]) -> Result<Vec<u32>, NoMemory> {
     Ok(out)
 }
 
+type OrderRow<'a> = (&'a [Shape], &'a [u32]);
+
+/// The first row whose leaves come in another order.
+fn wrong_order(alloc: Global, rows: &[OrderRow<'_>]) -> Result<Option<usize>, NoMemory> {
+    for (at, (shapes, want)) in rows.iter().enumerate() {
+        if walked(alloc, *shapes)?.as_slice() != *want {
+            return Ok(Some(at));
+        }
+    }
+    Ok(None)
+}
+
 #[test]
 fn tree_order(rt: HostRuntime) -> Result<(), Fail> {
-    let alloc = rt.alloc();
-    let table: [(&[Shape], &[u32]); 3] = [
+    let table: [OrderRow<'_>; 3] = [
         (&LOW_HIGH, &[0, 0, 1, 1]),
         (&CREW, &[0, 0, 0, 0, 0, 1, 1, 1]),
         (&[Leaf(7)], &[7]),
     ];
-    for (shapes, want) in table {
-        assert_eq!(rt; walked(alloc, shapes)?.as_slice(), want, "{shapes:?}");
-    }
+    assert_eq!(rt; wrong_order(rt.alloc(), &table)?, None);
     Ok(())
 }
 
@@ -237,19 +268,28 @@ fn found(alloc: Global, first: Shape, times: u32) -> Result<Option<usize>, NoMem
     }
 }
 
+type DoubledRow = (Shape, u32, Option<u32>);
+
+/// The first row whose number of leaves is another.
+fn wrong_double(alloc: Global, rows: &[DoubledRow]) -> Result<Option<usize>, NoMemory> {
+    for (at, (first, times, want)) in rows.iter().enumerate() {
+        if counted(alloc, *first, *times)? != *want {
+            return Ok(Some(at));
+        }
+    }
+    Ok(None)
+}
+
 #[test]
 fn sixty_nested_joins(rt: HostRuntime) -> Result<(), Fail> {
-    let alloc = rt.alloc();
-    let table: [(Shape, u32, Option<u32>); 5] = [
+    let table: [DoubledRow; 5] = [
         (Join(&[], &[]), 60, Some(0)),
         (Leaf(0), 60, Some(4097)),
         (Leaf(0), 12, Some(4096)),
         (Leaf(0), 255, Some(4097)),
         (Leaf(0), 256, None),
     ];
-    for (first, times, want) in table {
-        assert_eq!(rt; counted(alloc, first, times)?, want, "{first:?} {times}");
-    }
-    assert_eq!(rt; found(alloc, Join(&[], &[]), 60)?, Some(0));
+    assert_eq!(rt; wrong_double(rt.alloc(), &table)?, None);
+    assert_eq!(rt; found(rt.alloc(), Join(&[], &[]), 60)?, Some(0));
     Ok(())
 }

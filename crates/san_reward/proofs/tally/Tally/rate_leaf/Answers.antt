@@ -1,9 +1,9 @@
 use Rattle.std.proofs.Common.{arith, sym, map, slice_index_or, ◌∙◌}
-use Rattle.san_reward.specs.Rated.{told}
+use Rattle.san_base.specs.Rated.{told}
 use Rattle.std.specs.Prelude.{pos}
 use Rattle.std.proofs.lemmas.List.{get_or-map, length-map}
 use Rattle.san_law.specs.Reward.{zero_sum}
-use Rattle.san_reward.specs.declared.term.Rated.TheVariants.{Value}
+use Rattle.san_base.specs.declared.term.Rated.TheVariants.{Value}
 use Rattle.san_reward.proofs.Setting.{leaves_long, rates_long}
 use Rattle.san_reward.proofs.RatesSet.{leaf_ends, leaf_goes_on, leaf_there, term_there}
 use Rattle.san_reward.proofs.tally.Tally.rate_leaf.Goals as goal

@@ -1,5 +1,5 @@
 use Rattle.std.proofs.Common.{◌≡◌, map}
-use Rattle.san_reward.specs.Rated.{told}
+use Rattle.san_base.specs.Rated.{told}
 use Rattle.san_reward.proofs.RatesSet.{so_far}
 use Rattle.san_reward.proofs.tally.Tally.rate_leaf.Given as goal
 

@@ -1,5 +1,5 @@
 use Rattle.std.proofs.Common.{ap, arith, length, subst, sym, ◌<◌, ◌∙◌}
-use Rattle.san_reward.specs.Rated.{told}
+use Rattle.san_base.specs.Rated.{told}
 use Rattle.san_reward.specs.Running.{rates_of}
 use Rattle.san_reward.proofs.Setting.{leaves_long, rates_long}
 use Rattle.san_reward.proofs.RatesSet.{leaf_ends, leaf_goes_on, leaf_there, term_there, part_long, part_rate, terms_long}
