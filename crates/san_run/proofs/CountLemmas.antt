@@ -1,0 +1,91 @@
+-- What was counted after one more event.
+use Rattle.std.proofs.Common.{ℕ, zero, suc, ◌*◌, ◌≤◌, ◌≡◌, ◌∙◌, inl, inr, ap, sym, refl, subst, arith, List, [], ◌∷◌, ◌++◌, length, append-nil, slice_index_or}
+use Rattle.std.specs.Prelude.{replicate}
+use Rattle.std.proofs.lemmas.List.{length-map, length-replicate}
+use Rattle.san_law.proofs.Steps.{counted}
+use Rattle.san_law.proofs.Tallies.{counts_more, plus_first}
+use Rattle.san_law.specs.Lawful.{IsLawful}
+use Rattle.san_law.specs.Net.{Impulse, Net, Rated}
+use Rattle.san_law.specs.Network.{Limits}
+use Rattle.san_law.specs.Reward.{rates_from, zero_sum}
+use Rattle.san_law.specs.Standing.{Counts}
+use Rattle.san_law.specs.State.{State, opening_state}
+use Rattle.san_law.specs.Step.{Event, Happened, step}
+use Rattle.san_law.specs.Tally.{impulses_in, tally_after}
+use Rattle.san_law.specs.Trajectory.{Runs}
+use Rattle.san_net.specs.Network.{Network, net_of, span_in}
+use Rattle.san_reward.specs.Running.{IsOf, Running, advanced, opened, with_all_rates, with_impulses}
+use Rattle.san_reward.proofs.Impulses.{event_same, impulses_told}
+use Rattle.san_reward.proofs.Telling.{advance_same, opened_of}
+
+-- a run with one more event
+pub runs_on : (net : Net) (es : List Event) (s t : State) (e : Event) → Runs net s es t → (step net t).0 ≡ Happened e → Runs net s (es ++ e ∷ []) (step net t).1
+runs_on net [] s t e runs is = (ap (λ (x : State). (step net x).0) runs ∙ is, ap (λ (x : State). (step net x).1) runs)
+runs_on net (f ∷ es) s t e runs is = (runs.0, runs_on net es (step net s).1 t e runs.1 is)
+
+-- at most 1,024 impulses for each event
+pub impulses_few : (net : Net) → IsLawful net → (es : List Event) (s t : State) → Runs net s es t → impulses_in es ≤ 1024 * length es
+impulses_few net law [] s t runs = omega arith
+impulses_few net law (e ∷ es) s t runs = omega (arith, (counted net s e runs.0).few law, impulses_few net law es (step net s).1 t runs.1)
+
+-- a tally after an event, and what else is of the network still
+pub record CountsOn (net : Net) (opening : State) (es : List Event) (e : Event) (rates : List (List Rated)) (u : Running) : Type 0 where
+  pub is_of : IsOf net u
+  pub now : u.time ≡ e.time
+  pub set : u.tally.rates ≡ rates
+  pub counts : Counts net opening (es ++ e ∷ []) u.time u.tally
+
+module _ (net : Net) (opening s : State) (es : List Event) (e : Event) (t : Running) (rates : List (List Rated)) (is : IsOf net t) (runs : Runs net opening es s) (counts : Counts net opening es t.time t.tally) (present : t.tally.rates ≡ rates_from net 0 net.parts s.marking) (later : t.time ≤ e.time) (within : e.time ≤ net.horizon) where
+  abbrev v : Running
+  v = with_all_rates (advanced t e.time) rates
+
+  v_is : IsOf net v
+  v_is = record { spans = is.spans; terms = is.terms; horizon = is.horizon }
+
+  advanced_counts : Counts net opening es e.time (advanced t e.time).tally
+  advanced_counts =
+      subst (Counts net opening es e.time) (advance_same net t is e.time)
+      (subst (λ (xs : List Event). Counts net opening xs e.time (tally_after net t.tally t.time e.time [])) (append-nil es)
+      (counts_more net opening s es [] t.tally t.time e.time runs counts tt later within (inr present)))
+
+  v_counts : Counts net opening es e.time v.tally
+  v_counts =
+      let c = advanced_counts in
+      record { long = c.long; sums = c.sums; impulses = c.impulses; early = c.early; timely = c.timely }
+
+  event_counts : Counts net opening (es ++ e ∷ []) e.time (with_impulses v e.impulses).tally
+  event_counts =
+      subst (Counts net opening (es ++ e ∷ []) e.time) (event_same net v v_is e refl)
+      (counts_more net opening s es (e ∷ []) v.tally e.time e.time runs v_counts (refl, tt) (omega arith) within (inl refl))
+
+  told_on : CountsOn net opening es e rates (with_impulses v e.impulses)
+  told_on =
+      let same = impulses_told v e.impulses in
+      let now : (with_impulses v e.impulses).time ≡ e.time = ap (λ (u : Running). u.time) same in
+      record {
+        is_of = subst (IsOf net) (sym same) (record { spans = is.spans; terms = is.terms; horizon = is.horizon });
+        now = now;
+        set = ap (λ (u : Running). u.tally.rates) same;
+        counts = subst (λ (x : ℕ). Counts net opening (es ++ e ∷ []) x (with_impulses v e.impulses).tally) (sym now) event_counts;
+      }
+
+  pub counts_on : (u : Running) (xs : List Impulse) → xs ≡ e.impulses → u ≡ with_impulses v xs → CountsOn net opening es e rates u
+  counts_on u xs same so = subst (CountsOn net opening es e rates) (sym (so ∙ ap (with_impulses v) same)) told_on
+
+zeros_at : (k r : ℕ) → slice_index_or (replicate k zero_sum) r zero_sum ≡ zero_sum
+zeros_at zero r = refl
+zeros_at (suc k) zero = refl
+zeros_at (suc k) (suc r) = zeros_at k r
+
+-- before the first event
+pub opened_counts : (n : Network) (draw : ℕ → ℕ → ℕ) (bounds : Limits) (rates : List (List Rated)) → Counts (net_of n draw bounds) (opening_state (net_of n draw bounds)) [] 0 (with_all_rates (opened n bounds.horizon) rates).tally
+opened_counts n draw bounds rates = record {
+  long = length-replicate (length n.rewards) zero_sum ∙ sym (length-map n.rewards (λ r. span_in r.span));
+  sums = λ r h. zeros_at (length n.rewards) r ∙ sym (plus_first zero_sum);
+  impulses = refl;
+  early = tt;
+  timely = omega arith;
+}
+
+pub opened_is : (n : Network) (draw : ℕ → ℕ → ℕ) (bounds : Limits) (rates : List (List Rated)) → IsOf (net_of n draw bounds) (with_all_rates (opened n bounds.horizon) rates)
+opened_is n draw bounds rates = let is = opened_of n draw bounds in record { spans = is.spans; terms = is.terms; horizon = is.horizon }

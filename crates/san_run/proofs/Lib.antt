@@ -1,0 +1,15 @@
+pub mod PageLemmas
+pub mod SpanLemmas
+pub mod WorthLemmas
+pub mod StepLemmas
+pub mod NumberLemmas
+pub mod CountLemmas
+pub mod ReportLemmas
+pub mod TurnLemmas
+pub mod EndLemmas
+pub mod ClosingLemmas
+pub mod OpenedLemmas
+pub mod RateLemmas
+pub mod FollowLemmas
+pub mod ImpulseLemmas
+pub mod AccountLemmas

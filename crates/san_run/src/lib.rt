@@ -1,0 +1,14 @@
+//! The sequential run of a network, told as its report: a line for each completion, one for the
+//! ending, one for each reward.
+#![tactic(auto)]
+
+mod account;
+mod cells;
+mod closing;
+mod following;
+mod impulses;
+mod pages;
+mod rating;
+mod run;
+
+pub use run::{Run, Unwritten};
