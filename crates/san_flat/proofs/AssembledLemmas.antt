@@ -7,7 +7,7 @@ use Rattle.std.proofs.lemmas.Option.{slice_get-get_or}
 use Rattle.san_check.specs.declared.model.Model.{Model}
 use Rattle.san_flat.proofs.LeafLemmas.{home-found}
 use Rattle.san_flat.specs.Homes.{Home, homes_in, same}
-use Rattle.san_flat.specs.Networks.{homes_of, leaves_of, network_of_model, parts_from, value_at, values_of}
+use Rattle.san_flat.specs.Networks.{homes_of, leaves_of, network_in, network_of_model, parts_from, value_at, values_of}
 use Rattle.san_flat.specs.Sightings.{AreAmong, IsSeen, picked}
 use Rattle.san_flat.specs.Texts.{path_text}
 use Rattle.san_flat.specs.declared.seen.Seen.{Seen}
@@ -54,7 +54,7 @@ values-ordered homes initial s w =
     ∙ sym (map-append g (repeated same homes) (filter (λ k. not (is_often same homes k)) (firsts same homes)))
 
 pub network-is : (m : Model) (leaves : List Instance) (parts : List Part) (paths : List (List ℕ)) (initial : List ℕ) (shared : ℕ) (rewards : List Reward) → leaves ≡ leaves_of m → parts ≡ parts_from m 0 0 leaves → paths ≡ map (λ leaf. path_text m.system m.tree.nodes m.tree.root leaf.path) leaves → initial ≡ map (value_at (homes_of m) (values_of m)) (ordered same (homes_of m)) → shared ≡ length (repeated same (homes_of m)) → rewards ≡ m.rewards → network_of parts paths initial shared rewards ≡ network_of_model m
-unfolding network_of_model
+unfolding network_in
 network-is m leaves parts paths initial shared rewards own of_parts of_paths of_initial of_shared of_rewards =
     ap (λ p. network_of p paths initial shared rewards) (of_parts ∙ ap (parts_from m 0 0) own)
     ∙ ap (λ p. network_of (parts_from m 0 0 (leaves_of m)) p initial shared rewards) (of_paths ∙ ap (map (λ leaf. path_text m.system m.tree.nodes m.tree.root leaf.path)) own)

@@ -16,7 +16,7 @@ use Rattle.san_flat.proofs.TextLemmas.{AreNamed, texts-tell, texts-unbroken}
 use Rattle.san_flat.proofs.TreePaths.{IsPath, paths-are}
 use Rattle.san_flat.proofs.ValueLemmas.{cell-valued}
 use Rattle.san_flat.specs.Homes.{Home, homes_in, rows_of, same}
-use Rattle.san_flat.specs.Networks.{act_count, atomic_at, homes_of, leaf_count, leaves_of, network_of_model, part_of, parts_from, place_count, slot_at, slot_of, value_at, values_of}
+use Rattle.san_flat.specs.Networks.{act_count, atomic_at, homes_of, leaf_count, leaves_of, network_in, network_of_model, part_of, parts_from, place_count, slot_at, slot_of, value_at, values_of}
 use Rattle.san_flat.specs.Texts.{path_text}
 use Rattle.san_net.specs.Accepted.{IsAccepted, rewards_of}
 use Rattle.san_net.specs.Apart.{AreApart}
@@ -132,7 +132,7 @@ module _ (m : Model) (composed : Composes m) (few : leaf_count m ≤ 4096) where
   texts-whole = All-map (λ path. list_any is_blank path ≡ false) text_of leaves (λ k d l. texts-unbroken m.system composed.named m.tree.nodes all-named m.tree.root (slice_index_or leaves k d).path (the-paths k (slice_index_or leaves k d) (slice_get-get_or leaves k d l)))
 
   pub is-network : place_count m ≤ 65536 → act_count m ≤ 65536 → IsNetwork (network_of_model m)
-  unfolding network_of_model
+  unfolding network_in
   is-network places acts = record {
     accepted = each-part (λ _ p. IsAccepted p.atomic) (λ n i at p. all-at IsAccepted m.atomics composed.accepted i.atomic (atomic_at m.atomics i.atomic) p.atomic);
     rewarded = record {

@@ -1,7 +1,7 @@
--- Which limit of a network a model passes.
+-- Which limit of a network a composition passes.
 use Rattle.std.specs.Prelude.{ℕ, ◌≡◌, nat_lt, if◌then◌else◌, Option, None, Some}
 use Rattle.san_check.specs.declared.model.Model.{Model}
-use Rattle.san_flat.specs.Networks.{act_count, leaf_count, place_count}
+use Rattle.san_flat.specs.Networks.{Composition, composition_in, count_of_acts, count_of_leaves, count_of_places}
 use Rattle.san_flat.specs.declared.flattening.FlatFault.{FlatFault}
 use Rattle.san_flat.specs.declared.flattening.FlatFault.TheVariants as fault
 
@@ -9,8 +9,11 @@ use Rattle.san_flat.specs.declared.flattening.FlatFault.TheVariants as fault
 abbrev pub first_passed : ℕ → ℕ → ℕ → Option FlatFault
 first_passed leaves places acts = if nat_lt 4096 leaves then Some fault.Leaves else if nat_lt 65536 places then Some fault.Places else if nat_lt 65536 acts then Some fault.Acts else None
 
+abbrev pub limit_in : Composition → Option FlatFault
+limit_in c = first_passed (count_of_leaves c) (count_of_places c) (count_of_acts c)
+
 abbrev pub limit_passed : Model → Option FlatFault
-limit_passed m = first_passed (leaf_count m) (place_count m) (act_count m)
+limit_passed m = limit_in (composition_in m)
 
 -- a fault other than want of memory is the first limit that is passed
 abbrev pub Refuses : FlatFault → Model → Type 0
