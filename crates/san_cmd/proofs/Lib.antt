@@ -1,3 +1,6 @@
-pub mod PageLemmas
-pub mod ReportLemmas
-pub mod SentLemmas
+pub mod AcceptanceLemmas
+pub mod PlaceLemmas
+pub mod NoteLemmas
+pub mod RunLemmas
+pub mod SettledLemmas
+pub mod ShownLemmas

@@ -1,5 +1,7 @@
+pub mod Accepted
 pub mod Answers
-pub mod Page
-pub mod Report
-pub mod Sent
-pub mod Words
+pub mod Examples
+pub mod Notes
+pub mod Runs
+pub mod Settled
+pub mod Shown

@@ -1,9 +1,12 @@
-//! The top call: from the words and the bytes read to the bytes written.
+//! The top calls: from the words and the bytes read to the bytes written.
 #![tactic(auto)]
 
-mod report;
-mod run;
-mod words;
+mod acceptance;
+mod notes;
+mod running;
+mod shown;
 
-pub use run::run_words;
+pub use acceptance::{NotAccepted, accept};
+pub use running::{plain_words, run_words};
 pub use san_base::Status;
+pub use shown::show_words;
