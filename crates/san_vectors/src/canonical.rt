@@ -1,7 +1,8 @@
 //! Texts and their canonical texts, worked out by hand.
 
 use san_show::show;
-use san_text::{Same, parse};
+use san_text::{Parsed, Same, parse};
+use std::alloc::Global;
 
 /// Models of the rows, and a model of each version that uses every construct.
 const SHOWN: [(&[u8], &[u8]); 8] = [
@@ -39,19 +40,42 @@ const SHOWN: [(&[u8], &[u8]); 8] = [
     ),
 ];
 
-/// Each canonical text is shown, and is that of itself.
+/// A text that was read, and its canonical text.
+fn shown(alloc: Global, text: &[u8]) -> Option<(Parsed, Vec<u8>)> {
+    if text.len() > 4000 {
+        return None;
+    }
+    let found = parse(alloc, text).ok()?;
+    let written = show(alloc, &found.syntax).ok()?;
+    Some((found, written))
+}
+
+/// Whether a text has this canonical text, which is that of itself.
+fn is_shown(alloc: Global, text: &[u8], canonical: &[u8]) -> bool {
+    let Some((first, written)) = shown(alloc, text) else {
+        return false;
+    };
+    let Some((again, rewritten)) = shown(alloc, canonical) else {
+        return false;
+    };
+    written.as_slice() == canonical
+        && rewritten.as_slice() == canonical
+        && first.syntax.same(&again.syntax)
+}
+
+/// The first row that is shown in another way.
+fn wrong_text(alloc: Global, rows: &[(&[u8], &[u8])]) -> Option<usize> {
+    for (row, (text, canonical)) in rows.iter().enumerate() {
+        if !is_shown(alloc, *text, *canonical) {
+            return Some(row);
+        }
+    }
+    None
+}
+
 #[test]
 fn shows_canonical_texts(rt: HostRuntime) {
-    for (row, (text, canonical)) in SHOWN.iter().enumerate() {
-        assert!(rt; text.len() < 4000 && canonical.len() < 4000);
-        let first = parse(rt.alloc(), text).expect(&rt, "parse");
-        let written = show(rt.alloc(), &first.syntax).expect(&rt, "show");
-        assert_eq!(rt; written.as_slice(), *canonical, "row {row}");
-        let again = parse(rt.alloc(), canonical).expect(&rt, "parse again");
-        let rewritten = show(rt.alloc(), &again.syntax).expect(&rt, "show again");
-        assert_eq!(rt; rewritten.as_slice(), *canonical, "row {row} again");
-        assert!(rt; first.syntax.same(&again.syntax), "row {row} is the same");
-    }
+    assert_eq!(rt; wrong_text(rt.alloc(), &SHOWN), None);
 }
 
 /// Syntaxes that differ: in their version, a name, a number, an operator, a part that is missing,
@@ -68,19 +92,33 @@ const DIFFERENT: [&[u8]; 9] = [
     b"san 2; atomic x { place p; instant i { do { p = 1 + p; p = 2; } } } system y;",
 ];
 
-#[test]
-fn tells_syntaxes_apart(rt: HostRuntime) {
-    for (row, text) in DIFFERENT.iter().enumerate() {
-        assert!(rt; text.len() < 100);
-        let found = parse(rt.alloc(), text).expect(&rt, "parse");
-        for (other_row, other) in DIFFERENT.iter().enumerate() {
-            assert!(rt; other.len() < 100);
-            let others = parse(rt.alloc(), other).expect(&rt, "parse the other");
-            assert_eq!(rt;
-                found.syntax.same(&others.syntax),
-                row == other_row,
-                "rows {row} and {other_row}"
-            );
+/// Whether a text is told to be the same as just one of these, by its number.
+fn is_same_as(alloc: Global, text: &[u8], texts: &[&[u8]], number: usize) -> bool {
+    let Some((found, _)) = shown(alloc, text) else {
+        return false;
+    };
+    for (at, other) in texts.iter().enumerate() {
+        let Some((others, _)) = shown(alloc, *other) else {
+            return false;
+        };
+        if found.syntax.same(&others.syntax) != (at == number) {
+            return false;
         }
     }
+    true
+}
+
+/// The first text that is told to be the same as another.
+fn wrong_sameness(alloc: Global, texts: &[&[u8]]) -> Option<usize> {
+    for (row, text) in texts.iter().enumerate() {
+        if !is_same_as(alloc, *text, texts, row) {
+            return Some(row);
+        }
+    }
+    None
+}
+
+#[test]
+fn tells_syntaxes_apart(rt: HostRuntime) {
+    assert_eq!(rt; wrong_sameness(rt.alloc(), &DIFFERENT), None);
 }

@@ -1,6 +1,8 @@
 //! The networks of models, leaf by leaf, and the models that are too large for one; all worked out by
 //! hand.
 
+use crate::models::{LOW_HIGH, POKE, PROCESSORS};
+use crate::reading::nested_joins;
 use san_base::{LeafId, PlaceId};
 use san_check::check;
 use san_flat::{FlatFault, flatten};
@@ -11,28 +13,22 @@ use std::test::Fail;
 
 /// A text and its network: for each leaf a line with its path, the number of its first activity and
 /// the places of its cells, the shared ones in brackets; then the places' initial values.
-const NETWORKS: [(&[u8], &str); 6] = [
+const NETWORKS: [(&str, &str); 6] = [
+    (LOW_HIGH, "j.l 0: (0) 1\nj.h 1: (0) 2 3\n0 1 0 1\n"),
+    (POKE, "j.a 0: 0 1\nj.b 2:\n0 1\n"),
     (
-        b"san 1;\natomic low { place s; place d = 1; instant grab { gate s == 1 && d == 1 do { d = 0; } } }\natomic high {\n  place s; place n; place once = 1;\n  timed go { in once; delay det 2; do { s = 1; n = 1; } }\n  instant own { in n; }\n}\njoin j { child l = low; child h = high; share s = l.s, h.s; }\nsystem j;\n",
-        "j.l 0: (0) 1\nj.h 1: (0) 2 3\n0 1 0 1\n",
-    ),
-    (
-        b"san 1;\natomic x {\n  place p; place left = 1;\n  timed job { gate 1; delay det 5; react 1, p == 1; }\n  timed poke { in left; delay det 3; do { p = 1; } }\n}\natomic t { timed tick { delay det 2; } }\njoin j { child a = x; child b = t; }\nsystem j;\n",
-        "j.a 0: 0 1\nj.b 2:\n0 1\n",
-    ),
-    (
-        b"san 1;\natomic cpu { place up = 1; place failed; timed fail { in up; delay det 5; out failed; } }\natomic crew { place failed; timed fix { in failed; delay det 2; } }\nrep cpus = cpu times 2 { share failed; }\njoin sys {\n  child cpus = cpus; child repair = crew;\n  share failed = cpus.failed, repair.failed;\n}\nsystem sys;\nreward lost on cpu over 0 20 { rate 1 - up; impulse fail 10; }\nreward queue on crew mean 0 20 { rate failed; }\n",
+        PROCESSORS,
         "sys.cpus[0] 0: 1 (0)\nsys.cpus[1] 1: 2 (0)\nsys.repair 2: (0)\n0 1 1\n",
     ),
     (
-        b"san 1;\natomic x { place p = 1; place q; place r = 2; timed t { delay det 1; } }\nrep inner = x times 2 { share p; share q; }\njoin mid { child a = inner; child b = x; share s = a.p, b.p; share u = a.q; share w = b.q; }\nrep outer = mid times 2 { share s; share w; }\nsystem outer;\n",
+        "san 1;\natomic x { place p = 1; place q; place r = 2; timed t { delay det 1; } }\nrep inner = x times 2 { share p; share q; }\njoin mid { child a = inner; child b = x; share s = a.p, b.p; share u = a.q; share w = b.q; }\nrep outer = mid times 2 { share s; share w; }\nsystem outer;\n",
         "outer[0].a[0] 0: (0) (1) 4\nouter[0].a[1] 1: (0) (1) 5\nouter[0].b 2: (0) (2) 6\nouter[1].a[0] 3: (0) (3) 7\nouter[1].a[1] 4: (0) (3) 8\nouter[1].b 5: (0) (2) 9\n1 0 0 0 2 2 2 2 2 2\n",
     ),
     (
-        b"san 3; atomic x { place q[2] = 5; place p; } rep r = x times 2 { share q; } system r;",
+        "san 3; atomic x { place q[2] = 5; place p; } rep r = x times 2 { share q; } system r;",
         "r[0] 0: (0) (1) 2\nr[1] 0: (0) (1) 3\n5 5 0 0\n",
     ),
-    (b"san 1; atomic x { place p = 7; } system x;", "x 0: 0\n7\n"),
+    ("san 1; atomic x { place p = 7; } system x;", "x 0: 0\n7\n"),
 ];
 
 /// The network of a text, or why it has none; nothing where the text isn't a model's.
@@ -96,7 +92,7 @@ fn told(alloc: Global, flat: &Flat) -> Result<Vec<u8>, Fail> {
 #[test]
 fn tells_the_networks(rt: HostRuntime) -> Result<(), Fail> {
     for (row, (text, want)) in NETWORKS.iter().enumerate() {
-        let made = network(rt.alloc(), text).expect(&rt, "model");
+        let made = network(rt.alloc(), text.as_bytes()).expect(&rt, "model");
         let flat = made.expect(&rt, "network");
         let lines = told(rt.alloc(), &flat)?;
         assert_eq!(rt; lines.as_slice(), want.as_bytes(), "row {row}");
@@ -152,20 +148,11 @@ fn keeps_the_limits(rt: HostRuntime) -> Result<(), Fail> {
     Ok(())
 }
 
-/// Joins of two of the one before name nothing at all more often than any run could count.
+/// A tree whose nodes have no leaf has no place and no activity.
 #[test]
 fn has_no_leaf(rt: HostRuntime) -> Result<(), Fail> {
-    let mut text = Vec::new(rt.alloc());
-    text.extend_from_slice(b"san 1; join k0 { } ")?;
-    for k in 1..61u32 {
-        let below = k - 1;
-        let join = format!(in rt.alloc();
-            "join k{k} {{ child a = k{below}; child b = k{below}; }} "
-        )?;
-        text.extend_from_slice(join.as_bytes())?;
-    }
-    text.extend_from_slice(b"system k60;")?;
-    let made = network(rt.alloc(), &text).expect(&rt, "model");
+    let text = nested_joins(rt.alloc())?;
+    let made = network(rt.alloc(), text.as_bytes()).expect(&rt, "model");
     let flat = made.expect(&rt, "network");
     assert_eq!(rt; (flat.leaves(), flat.places(), flat.acts()), (0, 0, 0));
     Ok(())

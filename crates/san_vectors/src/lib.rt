@@ -15,13 +15,21 @@ mod checked_models;
 #[cfg(test)]
 mod draws;
 #[cfg(test)]
-mod first_form;
-#[cfg(test)]
 mod flattened;
 #[cfg(test)]
 mod grammar;
 #[cfg(test)]
+mod lines;
+#[cfg(test)]
+mod models;
+#[cfg(test)]
 mod network;
+#[cfg(test)]
+mod probes;
+#[cfg(test)]
+mod programs;
+#[cfg(test)]
+mod reading;
 #[cfg(test)]
 mod rewards;
 #[cfg(test)]

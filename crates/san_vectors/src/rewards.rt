@@ -1,34 +1,11 @@
 //! Rewards of a small run that were worked out by hand.
 
+use crate::models::{COUNTER, FAULTY_COUNTER, PROCESSORS};
 use crate::network::put_and_get;
+use crate::reading::network;
 use san_base::{LeafId, Tick};
-use san_check::check;
-use san_flat::flatten;
-use san_net::Flat;
 use san_reward::{Rated, Tally, Worth, rated};
-use san_text::parse;
-use std::alloc::Global;
 use std::test::Fail;
-
-const COUNTER: &[u8] =
-    b"san 1;\natomic x { place p = 1; place n; timed tick { in p; delay det 3; out p; out n; } }\nsystem x;\nreward r on x over 0 10 { rate n; impulse tick 5; }\nreward m on x mean 0 10 { rate n; impulse tick 5; }\nreward i on x at 6 { rate n; }\n";
-
-const FAULTY_COUNTER: &[u8] =
-    b"san 1;\natomic x { place p = 1; place n; timed tick { in p; delay det 3; out p; out n; } }\nsystem x;\nreward r on x over 0 10 { rate 1 / n; impulse tick 5; }\nreward m on x mean 0 10 { rate n; impulse tick 5; }\nreward i on x at 6 { rate n; }\n";
-
-const PROCESSORS: &[u8] =
-    b"san 1;\natomic cpu { place up = 1; place failed; timed fail { in up; delay det 5; out failed; } }\natomic crew { place failed; timed fix { in failed; delay det 2; } }\nrep cpus = cpu times 2 { share failed; }\njoin sys {\n  child cpus = cpus; child repair = crew;\n  share failed = cpus.failed, repair.failed;\n}\nsystem sys;\nreward lost on cpu over 0 20 { rate 1 - up; impulse fail 10; }\nreward queue on crew mean 0 20 { rate failed; }\n";
-
-/// The network of a text, where it is a model's that has one.
-#[tactic(auto, using(crate::proofs::ReadLemmas::read))]
-fn network(alloc: Global, text: &[u8]) -> Option<Flat> {
-    if text.len() > 67108864 {
-        return None;
-    }
-    let parsed = parse(alloc, text).ok()?;
-    let model = check(alloc, &parsed.syntax).ok()?;
-    flatten(alloc, &model).ok()
-}
 
 /// The network's reward is at tick 6: the impulse at 5 is before it, and the one at 7 behind it.
 #[test]

@@ -1,19 +1,18 @@
 //! Runs of models by their texts, and the markings on the way of one; all worked out by hand.
 
+use crate::models::*;
 use crate::network::put_and_get;
+use crate::reading::{nested_joins, network};
 use san_base::{ActId, Ending, Event, Limits, NoMemory, Stop, Tick, Trap};
-use san_check::check;
-use san_flat::flatten;
 use san_net::Flat;
-use san_seq::{Seq, Stepped};
-use san_text::parse;
+use san_seq::{Seq, Stepped, Trajectory};
 use std::alloc::Global;
 use std::test::Fail;
 
 /// A text, the seed, the horizon, the limits of burst and events, each event's time, activity and
 /// case, and the ending.
 type OfRun = (
-    &'static [u8],
+    &'static str,
     u64,
     u64,
     u32,
@@ -37,7 +36,7 @@ fn event_of(time: u64, act: u32, case: u32) -> Event {
 /// of all forms; an array.
 const RUNS: [OfRun; 24] = [
     (
-        b"san 1;\natomic x { place p = 1; timed tick { in p; delay det 3; out p; } }\nsystem x;\n",
+        TICK,
         7,
         10,
         1000,
@@ -45,17 +44,9 @@ const RUNS: [OfRun; 24] = [
         &[(3, 0, 0), (6, 0, 0), (9, 0, 0)],
         Ending::End(Tick(10)),
     ),
+    (TICK, 7, 0, 1000, 1000, &[], Ending::End(Tick(0))),
     (
-        b"san 1;\natomic x { place p = 1; timed tick { in p; delay det 3; out p; } }\nsystem x;\n",
-        7,
-        0,
-        1000,
-        1000,
-        &[],
-        Ending::End(Tick(0)),
-    ),
-    (
-        b"san 1;\natomic x {\n  place up = 1; place left = 2;\n  timed flip { in left; delay det 2; do { up = 1 - up; } }\n  timed job { gate up == 1; delay det 5; }\n}\nsystem x;\n",
+        FLIP,
         7,
         9,
         1000,
@@ -64,7 +55,7 @@ const RUNS: [OfRun; 24] = [
         Ending::End(Tick(9)),
     ),
     (
-        b"san 1;\natomic x { place p = 2147483647; timed go { delay det 1; out p; } }\nsystem x;\n",
+        FULL,
         7,
         5,
         1000,
@@ -73,7 +64,7 @@ const RUNS: [OfRun; 24] = [
         Ending::Stop(Stop::Trap(Trap::Marking, Tick(1), ActId(0))),
     ),
     (
-        b"san 1;\natomic x { place p = 1; timed tick { in p; delay det 3; out p; } }\nsystem x;\n",
+        TICK,
         7,
         10,
         1000,
@@ -82,7 +73,7 @@ const RUNS: [OfRun; 24] = [
         Ending::Stop(Stop::Events(Tick(9))),
     ),
     (
-        b"san 1; atomic x { place n; timed t { delay det 2 - n; do { n = n + 1; } } } system x;",
+        SHRINKING,
         7,
         9,
         1000,
@@ -91,7 +82,7 @@ const RUNS: [OfRun; 24] = [
         Ending::Stop(Stop::Trap(Trap::Delay, Tick(3), ActId(0))),
     ),
     (
-        b"san 1;\natomic low { place s; place d = 1; instant grab { gate s == 1 && d == 1 do { d = 0; } } }\natomic high {\n  place s; place n; place once = 1;\n  timed go { in once; delay det 2; do { s = 1; n = 1; } }\n  instant own { in n; }\n}\njoin j { child l = low; child h = high; share s = l.s, h.s; }\nsystem j;\n",
+        LOW_HIGH,
         7,
         5,
         1000,
@@ -100,7 +91,7 @@ const RUNS: [OfRun; 24] = [
         Ending::End(Tick(5)),
     ),
     (
-        b"san 1;\natomic x { place p = 1; instant spin { in p; out p; } }\nsystem x;\n",
+        SPIN,
         7,
         4,
         3,
@@ -109,7 +100,7 @@ const RUNS: [OfRun; 24] = [
         Ending::Stop(Stop::Unstable(Tick(0))),
     ),
     (
-        b"san 1;\natomic x { place n = 3; instant drain { in n; } }\nsystem x;\n",
+        DRAIN,
         7,
         4,
         3,
@@ -118,7 +109,7 @@ const RUNS: [OfRun; 24] = [
         Ending::End(Tick(4)),
     ),
     (
-        b"san 1;\natomic x {\n  place p; place left = 1;\n  timed job { gate 1; delay det 5; react 1, p == 1; }\n  timed poke { in left; delay det 3; do { p = 1; } }\n}\natomic t { timed tick { delay det 2; } }\njoin j { child a = x; child b = t; }\nsystem j;\n",
+        POKE,
         7,
         8,
         1000,
@@ -134,7 +125,7 @@ const RUNS: [OfRun; 24] = [
         Ending::End(Tick(8)),
     ),
     (
-        b"san 1;\natomic x {\n  place p; place left = 1;\n  timed job { gate 1; delay det 5; react 1, p == 1; }\n  timed poke { in left; delay det 3; do { p = 1; } }\n}\nsystem x;\n",
+        POKE_ALONE,
         7,
         8,
         1000,
@@ -143,7 +134,7 @@ const RUNS: [OfRun; 24] = [
         Ending::End(Tick(8)),
     ),
     (
-        b"san 2;\natomic x { place n = 2; instant a { in n; } instant b priority 5 { in n; } }\nsystem x;\n",
+        PRIORITIES,
         7,
         1,
         1000,
@@ -152,7 +143,7 @@ const RUNS: [OfRun; 24] = [
         Ending::End(Tick(1)),
     ),
     (
-        b"san 1;\natomic x { place p = 1; timed tick { in p; delay det 3; out p; } }\njoin j { child a = x; child b = x; }\nsystem j;\n",
+        TWO_TICKS,
         7,
         3,
         1000,
@@ -161,7 +152,7 @@ const RUNS: [OfRun; 24] = [
         Ending::End(Tick(3)),
     ),
     (
-        b"san 1;\natomic cpu { place up = 1; place failed; timed fail { in up; delay det 5; out failed; } }\natomic crew { place failed; timed fix { in failed; delay det 2; } }\nrep cpus = cpu times 2 { share failed; }\njoin sys {\n  child cpus = cpus; child repair = crew;\n  share failed = cpus.failed, repair.failed;\n}\nsystem sys;\n",
+        PROCESSORS_ALONE,
         7,
         20,
         1000,
@@ -169,17 +160,9 @@ const RUNS: [OfRun; 24] = [
         &[(5, 0, 0), (5, 1, 0), (7, 2, 0), (9, 2, 0)],
         Ending::End(Tick(20)),
     ),
+    (NO_LEAF, 7, 5, 1000, 1000, &[], Ending::End(Tick(5))),
     (
-        b"san 1; join j { } system j;",
-        7,
-        5,
-        1000,
-        1000,
-        &[],
-        Ending::End(Tick(5)),
-    ),
-    (
-        b"san 1;\natomic x { place z; timed t { delay det 1; case z { } case 1 { } } }\nsystem x;\n",
+        ONE_WEIGHT,
         7,
         2,
         1000,
@@ -188,7 +171,7 @@ const RUNS: [OfRun; 24] = [
         Ending::End(Tick(2)),
     ),
     (
-        b"san 1;\natomic x { place z; timed t { delay det 1; case z { } case z { } } }\nsystem x;\n",
+        NO_WEIGHT,
         7,
         2,
         1000,
@@ -197,7 +180,7 @@ const RUNS: [OfRun; 24] = [
         Ending::Stop(Stop::Trap(Trap::Weight, Tick(1), ActId(0))),
     ),
     (
-        b"san 1;\natomic x { timed t { delay uniform 1, 10; } }\nsystem x;\n",
+        UNIFORM,
         0,
         8,
         1000,
@@ -206,7 +189,7 @@ const RUNS: [OfRun; 24] = [
         Ending::End(Tick(8)),
     ),
     (
-        b"san 1;\natomic x { timed t { delay geom 1 2; } }\nsystem x;\n",
+        GEOMETRIC,
         0,
         4,
         1000,
@@ -215,7 +198,7 @@ const RUNS: [OfRun; 24] = [
         Ending::End(Tick(4)),
     ),
     (
-        b"san 1;\natomic x { timed t { delay uniform 3, 2; } }\nsystem x;\n",
+        NO_DELAY,
         7,
         5,
         1000,
@@ -224,7 +207,7 @@ const RUNS: [OfRun; 24] = [
         Ending::Stop(Stop::Trap(Trap::Delay, Tick(0), ActId(0))),
     ),
     (
-        b"san 1;\natomic x { timed t { delay table 2:0, 5:3; } }\nsystem x;\n",
+        TABLE,
         7,
         10,
         1000,
@@ -233,7 +216,7 @@ const RUNS: [OfRun; 24] = [
         Ending::End(Tick(10)),
     ),
     (
-        b"san 1;\natomic x { timed t { delay geom 7 7; } }\nsystem x;\n",
+        SURE,
         7,
         2,
         1000,
@@ -242,7 +225,7 @@ const RUNS: [OfRun; 24] = [
         Ending::End(Tick(2)),
     ),
     (
-        b"san 3; atomic x { place i; place q[2]; timed t { delay det 1; do { q[i] = q[i] + 1; i = i + 1; } } } system x;",
+        ARRAY,
         7,
         2,
         1000,
@@ -251,7 +234,7 @@ const RUNS: [OfRun; 24] = [
         Ending::End(Tick(2)),
     ),
     (
-        b"san 3; atomic x { place i; place q[2]; timed t { delay det 1; do { q[i] = q[i] + 1; i = i + 1; } } } system x;",
+        ARRAY,
         7,
         5,
         1000,
@@ -289,25 +272,49 @@ fn opened(
     Ok(Some(Seq::open(alloc, flat, seed, limits)?))
 }
 
-#[test]
-#[tactic(auto, using(crate::proofs::ReadLemmas::read))]
-fn trajectories(rt: HostRuntime) -> Result<(), Fail> {
-    for (text, seed, horizon, burst, events, told, ending) in &RUNS {
-        assert!(rt; text.len() < 2000);
-        let parsed = parse(rt.alloc(), text).expect(&rt, "parse");
-        let model = check(rt.alloc(), &parsed.syntax).expect(&rt, "check");
-        let flat = flatten(rt.alloc(), &model).expect(&rt, "flatten");
-        let seq = opened(rt.alloc(), &flat, *seed, *horizon, *burst, *events)
-            .expect(&rt, "open")
-            .expect(&rt, "limits");
-        let trajectory = seq.run_all(rt.alloc()).expect(&rt, "run_all");
-        assert_eq!(rt; trajectory.events.len(), told.len());
-        for (at, (time, act, case)) in told.iter().enumerate() {
-            let event = trajectory.events.as_slice().get(at).expect(&rt, "event");
-            assert_eq!(rt; *event, event_of(*time, *act, *case));
-        }
-        assert_eq!(rt; trajectory.ending, *ending);
+fn is_run(trajectory: &Trajectory, told: &[(u64, u32, u32)], ending: Ending) -> bool {
+    let events = trajectory.events.as_slice();
+    if events.len() != told.len() || trajectory.ending != ending {
+        return false;
     }
+    for (at, (time, act, case)) in told.iter().enumerate() {
+        if events[at] != event_of(*time, *act, *case) {
+            return false;
+        }
+    }
+    true
+}
+
+/// The first row whose run is another.
+fn wrong_run(alloc: Global, rows: &[OfRun]) -> Result<Option<usize>, NoMemory> {
+    for (at, (text, seed, horizon, burst, events, told, ending)) in rows.iter().enumerate() {
+        let Some(flat) = network(alloc, *text) else {
+            return Ok(Some(at));
+        };
+        let Some(seq) = opened(alloc, &flat, *seed, *horizon, *burst, *events)? else {
+            return Ok(Some(at));
+        };
+        if !is_run(&seq.run_all(alloc)?, *told, *ending) {
+            return Ok(Some(at));
+        }
+    }
+    Ok(None)
+}
+
+#[test]
+fn trajectories(rt: HostRuntime) -> Result<(), Fail> {
+    assert_eq!(rt; wrong_run(rt.alloc(), &RUNS)?, None);
+    Ok(())
+}
+
+/// A node that has no leaf isn't walked.
+#[test]
+fn no_leaf_below_nested_joins(rt: HostRuntime) -> Result<(), Fail> {
+    let text = nested_joins(rt.alloc())?;
+    let flat = network(rt.alloc(), text.as_str()).ok_or("no network")?;
+    let seq = opened(rt.alloc(), &flat, 7, 5, 1000, 1000)?.ok_or("limits")?;
+    let trajectory = seq.run_all(rt.alloc())?;
+    assert!(rt; is_run(&trajectory, &[], Ending::End(Tick(5))));
     Ok(())
 }
 
