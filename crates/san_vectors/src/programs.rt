@@ -544,7 +544,7 @@ fn is_cut(alloc: Global, top: Top, at: u64) -> Result<bool, NoMemory> {
     Ok(
         ran.status == Status::WriteFault
             && ran.notes.as_slice() == b"write\n".as_slice()
-            && ran.out.len() as u64 <= 4 * at
+            && ran.out.len() as u64 <= at.saturating_mul(4)
             && THREE_REWARDS.as_bytes().starts_with(ran.out.as_slice()),
     )
 }
