@@ -4,7 +4,7 @@ use Rattle.std.proofs.lemmas.List.Elements.{All-cons, All-nil, All-head, All-tai
 use Rattle.san_lex.specs.declared.sign.Keyword.TheVariants as keyword
 use Rattle.san_lex.specs.declared.sign.Mark.TheVariants as mark
 use Rattle.san_lex.specs.declared.sign.Sign.TheVariants as sign
-use Rattle.san_lex.specs.Lexing.{Word}
+use Rattle.san_lex.specs.Lexer.{Word}
 use Rattle.san_text.specs.declared.syntax.ActDecl.{ActDecl}
 use Rattle.san_text.specs.declared.syntax.Timing.{Timing}
 use Rattle.san_text.specs.declared.syntax.Cases.{Cases}

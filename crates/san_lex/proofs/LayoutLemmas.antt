@@ -14,8 +14,8 @@ use Rattle.san_lex.specs.declared.sign.Mark.TheVariants as mark
 use Rattle.san_lex.specs.declared.sign.Sign.{Sign}
 use Rattle.san_lex.specs.declared.sign.Sign.TheVariants as sign
 use Rattle.san_lex.specs.Bytes.{is_letter, is_digit, is_in_name, is_blank, run, first, each}
-use Rattle.san_lex.specs.Keywords.{keyword_of, model_keyword, activity_keyword, delay_keyword, reward_keyword}
-use Rattle.san_lex.specs.Lexing.{Word, Number, Name, Fixed, Fault, Front, Token, named, numbered, mark_of, operator_of, single, double, sign_front, front, more, Placed, with_token, grown, lex, word_of, heard}
+use Rattle.san_lex.specs.Keywords.{keyword_of}
+use Rattle.san_lex.specs.Lexer.{Word, Number, Name, Fixed, Fault, Front, Token, named, numbered, mark_of, operator_of, single, double, sign_front, front, more, Located, with_token, grown, lex, word_of, heard}
 use Rattle.san_lex.specs.Words.{IsName, IsWord, AreWords}
 use Rattle.san_lex.specs.Layout.{sign_text, text_of, Before, Line, Tight, Loose, before, hugs, depth_after, closes, spaces, gap, ending, layout}
 
@@ -32,7 +32,7 @@ lex_token : (b : ℕ) (bs vs : List ℕ) (w : Word) (at then : ℕ) → at + suc
 unfolding lex
 lex_token b bs vs w at then e f =
     ap (λ (g : Front). grown g at (lex (more g) (suc at) (bs ++ vs))) f
-    ∙ ap (λ (r : Result (List Placed) Fault). grown (Token w (length bs)) at r) (lex_skip bs vs (suc at) then (omega arith))
+    ∙ ap (λ (r : Result (List Located) Fault). grown (Token w (length bs)) at r) (lex_skip bs vs (suc at) then (omega arith))
 
 lex_space : (vs : List ℕ) (at : ℕ) → lex 0 at (32 ∷ vs) ≡ lex 0 (suc at) vs
 unfolding lex front
@@ -46,7 +46,7 @@ lex_spaces : (n : ℕ) (vs : List ℕ) (at then : ℕ) → at + n ≡ then → l
 lex_spaces zero vs at then e = let same : at ≡ then = omega arith in ap (λ (k : ℕ). lex 0 k vs) same
 lex_spaces (suc n) vs at then e = lex_space (spaces n ++ vs) at ∙ lex_spaces n vs (suc at) then (omega arith)
 
-heard_token : (p : Placed) (r : Result (List Placed) Fault) (ws : List Word) → heard r ≡ Ok ws → heard (with_token p r) ≡ Ok (p.word ∷ ws)
+heard_token : (p : Located) (r : Result (List Located) Fault) (ws : List Word) → heard r ≡ Ok ws → heard (with_token p r) ≡ Ok (p.word ∷ ws)
 heard_token p (Ok ps) ws e = let same : map word_of ps ≡ ws = cc in ap (λ (us : List Word). Ok (p.word ∷ us)) same
 heard_token p (Err f) ws e = absurd cc
 
@@ -203,7 +203,7 @@ record Fronts (w : Word) (vs : List ℕ) : Type 0 where
   front_is : front head (others ++ vs) ≡ Token w (length others)
 
 sign_fronts : (s : Sign) (vs : List ℕ) → sign_grows s (first vs) ≡ false → Fronts (Fixed s) vs
-unfolding text_of front double single mark_of operator_of named keyword_of model_keyword activity_keyword delay_keyword reward_keyword run
+unfolding text_of front double single mark_of operator_of named keyword_of run
 sign_fronts (sign.Operator op.Or) vs e = record { head = 124; others = 124 ∷ []; text = refl; front_is = refl }
 sign_fronts (sign.Operator op.And) vs e = record { head = 38; others = 38 ∷ []; text = refl; front_is = refl }
 sign_fronts (sign.Operator op.Eq) vs e = record { head = 61; others = 61 ∷ []; text = refl; front_is = refl }

@@ -8,7 +8,7 @@ use Rattle.san_lex.specs.declared.token.Kind.TheVariants as kind
 use Rattle.san_lex.specs.declared.piece.Piece.TheVariants as piece
 use Rattle.san_lex.specs.Bytes.{is_digit, is_in_name, first, run}
 use Rattle.san_lex.specs.Keywords.{keyword_of}
-use Rattle.san_lex.specs.Lexing.{Number, Name, Token, Broken, Large, named, numbered}
+use Rattle.san_lex.specs.Lexer.{Number, Name, Token, Broken, Large, named, numbered}
 use Rattle.san_lex.specs.Bytes.{each}
 use Rattle.san_lex.specs.Pieces.{NameFront, NumberFront}
 use Rattle.san_lex.proofs.RunLemmas.{run_take}

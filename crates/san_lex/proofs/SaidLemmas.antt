@@ -1,6 +1,6 @@
 -- The names and numbers among words.
 use Rattle.std.proofs.Common.{◌≡◌, List, [], ◌∷◌, ◌++◌, refl, ap, ◌∙◌}
-use Rattle.san_lex.specs.Lexing.{Word, Number, Name, Fixed}
+use Rattle.san_lex.specs.Lexer.{Word, Number, Name, Fixed}
 use Rattle.san_lex.specs.Words.{AreWords, said}
 
 pub said_append : (us vs : List Word) → said (us ++ vs) ≡ said us ++ said vs

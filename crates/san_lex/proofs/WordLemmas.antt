@@ -7,7 +7,7 @@ use Rattle.san_lex.specs.declared.sign.Keyword.{Keyword}
 use Rattle.san_lex.specs.declared.sign.Sign.{Sign}
 use Rattle.san_lex.specs.Bytes.{is_letter, is_digit, is_in_name, is_blank, run, first}
 use Rattle.san_lex.specs.Keywords.{keyword_of}
-use Rattle.san_lex.specs.Lexing.{Number, Fault, Large, Long, Front, Gap, Token, Broken, name_word, named, numbered, single, double, sign_front, front, more, Placed, with_token, grown, lex, word_of}
+use Rattle.san_lex.specs.Lexer.{Number, Fault, Large, Long, Front, Gap, Token, Broken, name_word, named, numbered, single, double, sign_front, front, more, Located, with_token, grown, lex, word_of}
 use Rattle.san_lex.specs.Bytes.{each}
 use Rattle.san_lex.specs.Words.{IsWord, AreWords}
 
@@ -58,19 +58,19 @@ front_fits b bs =
     either (is_letter b) _ _ (λ h. named_fits b (run is_in_name bs) h (each_run is_in_name bs)) (λ h.
     either (is_digit b) _ _ (λ h. numbered_fits b (run is_digit bs)) (λ h. sign_fits (double b (first bs)) (single b)))))
 
-token_words : (p : Placed) (r : Result (List Placed) Fault) (ps : List Placed) → with_token p r ≡ Ok ps → (qs : List Placed) × (r ≡ Ok qs) × (p ∷ qs ≡ ps)
+token_words : (p : Located) (r : Result (List Located) Fault) (ps : List Located) → with_token p r ≡ Ok ps → (qs : List Located) × (r ≡ Ok qs) × (p ∷ qs ≡ ps)
 token_words p (Ok qs) ps e = (qs, refl, cc)
 token_words p (Err f) ps e = absurd cc
 
-grown_words : (f : Front) (at : ℕ) (r : Result (List Placed) Fault) (ps : List Placed) → FrontFits f → ((qs : List Placed) → r ≡ Ok qs → AreWords (map word_of qs)) → grown f at r ≡ Ok ps → AreWords (map word_of ps)
+grown_words : (f : Front) (at : ℕ) (r : Result (List Located) Fault) (ps : List Located) → FrontFits f → ((qs : List Located) → r ≡ Ok qs → AreWords (map word_of qs)) → grown f at r ≡ Ok ps → AreWords (map word_of ps)
 grown_words (Gap n) at r ps h rest e = rest ps e
 grown_words (Token w n) at r ps h rest e =
     let t = token_words (record { word = w; start = at; end = at + suc n }) r ps e in
-    subst (λ (qs : List Placed). AreWords (map word_of qs)) t.2 (h, rest t.0 t.1)
+    subst (λ (qs : List Located). AreWords (map word_of qs)) t.2 (h, rest t.0 t.1)
 grown_words (Broken f) at r ps h rest e = absurd cc
 
-pub lex_words : (skip at : ℕ) (bs : List ℕ) (ps : List Placed) → lex skip at bs ≡ Ok ps → AreWords (map word_of ps)
+pub lex_words : (skip at : ℕ) (bs : List ℕ) (ps : List Located) → lex skip at bs ≡ Ok ps → AreWords (map word_of ps)
 unfolding lex
-lex_words skip at [] ps e = let none : [] ≡ ps = cc in subst (λ (qs : List Placed). AreWords (map word_of qs)) none tt
+lex_words skip at [] ps e = let none : [] ≡ ps = cc in subst (λ (qs : List Located). AreWords (map word_of qs)) none tt
 lex_words (suc k) at (b ∷ bs) ps e = lex_words k (suc at) bs ps e
 lex_words zero at (b ∷ bs) ps e = grown_words (front b bs) at (lex (more (front b bs)) (suc at) bs) ps (front_fits b bs) (λ qs h. lex_words (more (front b bs)) (suc at) bs qs h) e

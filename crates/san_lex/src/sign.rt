@@ -1,3 +1,5 @@
+//! The tokens that are always spelled alike: keywords, marks and operators.
+
 use san_base::Op;
 
 /// The keywords.

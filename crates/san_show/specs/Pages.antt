@@ -1,6 +1,6 @@
 -- What is on a page after words were written, one by one.
 use Rattle.std.specs.Prelude.{ℕ, ◌-◌, ◌*◌, Bool, cond, List, [], ◌∷◌, ◌++◌}
-use Rattle.san_lex.specs.Lexing.{Word}
+use Rattle.san_lex.specs.Lexer.{Word}
 use Rattle.san_lex.specs.Layout as layout
 use Rattle.san_lex.specs.Layout.{gap, spaces, text_of, ending, before, depth_after}
 use Rattle.san_show.specs.declared.page.Before.{Before}

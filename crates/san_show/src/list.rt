@@ -1,7 +1,7 @@
 ghost use Rattle.std.specs.Prelude.{◌≡◌, List, ◌∷◌, map, OnOk};
 ghost use Rattle.san_lex.specs.declared.sign.Mark.TheVariants.{Comma};
 ghost use Rattle.san_lex.specs.declared.sign.Sign.TheVariants.{Mark as MarkSign};
-ghost use Rattle.san_lex.specs.Lexing.{Word, Fixed};
+ghost use Rattle.san_lex.specs.Lexer.{Word, Fixed};
 ghost use Rattle.san_text.specs.Spelling.{joined};
 ghost use Rattle.san_text.specs.ActivityWords.{with_commas};
 ghost use Rattle.san_show.specs.Pages.{written};

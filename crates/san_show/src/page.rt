@@ -1,6 +1,6 @@
 ghost use Rattle.std.specs.Prelude.{◌≡◌, ◌++◌, ◌*◌, false, [], codes, OnOk, IfOk};
 ghost use Rattle.san_lex.specs.declared.sign.Sign.TheVariants.{Keyword as KeywordSign, Mark as MarkSign};
-ghost use Rattle.san_lex.specs.Lexing.{Number, Name as Named, Fixed};
+ghost use Rattle.san_lex.specs.Lexer.{Number, Name as Named, Fixed};
 ghost use Rattle.san_lex.specs.Layout.{sign_before, sign_hugs, sign_closes, sign_depth, spaces, ending};
 ghost use Rattle.san_lex.specs.Layout as layout;
 ghost use Rattle.san_show.specs.Pages.{before_of, put, gap_by, put_by};

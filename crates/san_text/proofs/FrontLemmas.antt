@@ -7,7 +7,7 @@ use Rattle.san_base.specs.declared.op.Op.TheVariants as op
 use Rattle.san_lex.specs.declared.sign.Sign.{Sign}
 use Rattle.san_lex.specs.declared.sign.Sign.TheVariants as sign
 use Rattle.san_lex.specs.declared.sign.Mark.TheVariants as mark
-use Rattle.san_lex.specs.Lexing.{Word, Number, Name, Fixed}
+use Rattle.san_lex.specs.Lexer.{Word, Number, Name, Fixed}
 use Rattle.san_lex.specs.declared.sign.Keyword.TheVariants as keyword
 use Rattle.san_text.specs.declared.expr.Begin.TheVariants as begin
 use Rattle.san_text.specs.Words.{Goes, By, Ends, Index, look, at_level, level_of, is_next, sign_code, tail}

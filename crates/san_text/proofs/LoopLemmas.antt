@@ -1,6 +1,6 @@
 -- An item that is not read ends the loop with its fault.
 use Rattle.std.proofs.Common.{◌≡◌, ℕ, ◌<◌, Bool, true, List, Result}
-use Rattle.san_lex.specs.Lexing.{Word}
+use Rattle.san_lex.specs.Lexer.{Word}
 use Rattle.san_text.specs.declared.words.ReadError.{ReadError}
 use Rattle.san_text.specs.declared.words.ReadError.TheVariants as error
 use Rattle.san_text.specs.Reading.{Fault, Illegal, Long, Deep, Version, Reads, many, gathered}

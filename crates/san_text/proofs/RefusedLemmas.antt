@@ -6,7 +6,7 @@ use Rattle.std.specs.Prelude.{nat_eq}
 use Rattle.san_lex.specs.declared.sign.Keyword.TheVariants as keyword
 use Rattle.san_lex.specs.declared.sign.Mark.TheVariants as mark
 use Rattle.san_lex.specs.declared.sign.Sign.TheVariants as sign
-use Rattle.san_lex.specs.Lexing.{Word, Placed, tokens, word_of}
+use Rattle.san_lex.specs.Lexer.{Word, Located, tokens, word_of}
 use Rattle.san_text.specs.declared.syntax.Syntax.{Syntax}
 use Rattle.san_text.specs.declared.syntax.ModelDecl.{ModelDecl}
 use Rattle.san_text.specs.declared.syntax.RewardDecl.{RewardDecl}
@@ -128,26 +128,26 @@ refused_too us w rest other f e left =
 
 -- ---- the same of texts
 
-words_of_both : (ps : List Placed) (p : Placed) (qs : List Placed) → map word_of (ps ++ p ∷ qs) ≡ map word_of ps ++ p.word ∷ map word_of qs
+words_of_both : (ps : List Located) (p : Located) (qs : List Located) → map word_of (ps ++ p ∷ qs) ≡ map word_of ps ++ p.word ∷ map word_of qs
 words_of_both [] p qs = refl
 words_of_both (x ∷ ps) p qs = ap (λ (ws : List Word). x.word ∷ ws) (words_of_both ps p qs)
 
-drop_front : (ps qs : List Placed) (n : ℕ) → n ≡ length ps → drop n (ps ++ qs) ≡ qs
+drop_front : (ps qs : List Located) (n : ℕ) → n ≡ length ps → drop n (ps ++ qs) ≡ qs
 drop_front [] qs n e = ap (λ (k : ℕ). drop k qs) e
 drop_front (p ∷ ps) qs zero e = absurd (omega (arith, e))
 drop_front (p ∷ ps) qs (suc n) e = drop_front ps qs n (omega (arith, e))
 
-place_is : (text : List ℕ) (ps : List Placed) (p : Placed) (qs : List Placed) → place_of text (ps ++ p ∷ qs) (suc (length qs)) ≡ p.start
+place_is : (text : List ℕ) (ps : List Located) (p : Located) (qs : List Located) → place_of text (ps ++ p ∷ qs) (suc (length qs)) ≡ p.start
 unfolding place_of
 place_is text ps p qs = ap (start_or (length text)) (drop_front ps (p ∷ qs) (length (ps ++ p ∷ qs) - suc (length qs)) (omega (arith, length-append ps (p ∷ qs))))
 
-refusal_is : (text : List ℕ) (ps : List Placed) (f : Fault) (n : ℕ) → read_refusal text ps (with_left f n) ≡ refused (code_of f) text (place_of text ps n)
+refusal_is : (text : List ℕ) (ps : List Located) (f : Fault) (n : ℕ) → read_refusal text ps (with_left f n) ≡ refused (code_of f) text (place_of text ps n)
 refusal_is text ps (Illegal m) n = refl
 refusal_is text ps (Deep m) n = refl
 refusal_is text ps (Long m) n = refl
 refusal_is text ps (Version m) n = refl
 
-pub text_refused_too : (other : List ℕ) (ps qs : List Placed) (p q : Placed) (rest more : List Placed) (f : Fault) → syntax_at (map word_of (ps ++ p ∷ rest)) ≡ Err f → left_of f ≡ suc (length rest)
+pub text_refused_too : (other : List ℕ) (ps qs : List Located) (p q : Located) (rest more : List Located) (f : Fault) → syntax_at (map word_of (ps ++ p ∷ rest)) ≡ Err f → left_of f ≡ suc (length rest)
     → tokens other ≡ Ok (qs ++ q ∷ more) → map word_of qs ≡ map word_of ps → q.word ≡ p.word → parsed other ≡ Err (refused (code_of f) other q.start)
 unfolding parsed
 text_refused_too other ps qs p q rest more f e left lexed fronts last =

@@ -6,7 +6,7 @@ use Rattle.std.specs.Prelude.{nat_le, nat_eq}
 use Rattle.san_lex.specs.declared.sign.Keyword.TheVariants as keyword
 use Rattle.san_lex.specs.declared.sign.Mark.TheVariants as mark
 use Rattle.san_lex.specs.declared.sign.Sign.TheVariants as sign
-use Rattle.san_lex.specs.Lexing.{Word, Number, Name, Fixed}
+use Rattle.san_lex.specs.Lexer.{Word, Number, Name, Fixed}
 use Rattle.san_text.specs.declared.syntax.Syntax.{Syntax}
 use Rattle.san_text.specs.declared.syntax.ModelDecl.{ModelDecl}
 use Rattle.san_text.specs.declared.syntax.RewardDecl.{RewardDecl}

@@ -1,5 +1,5 @@
 ghost use Rattle.std.specs.Prelude.{◌≡◌, ℕ, Bool, List, [], ◌∷◌, length, true, false};
-ghost use Rattle.san_lex.specs.Lexing.{Word};
+ghost use Rattle.san_lex.specs.Lexer.{Word};
 ghost use Rattle.san_lex.specs.declared.sign.Sign.TheVariants.{Keyword as Key, Mark as Marked};
 ghost use Rattle.san_text.specs.Words.{is_next};
 ghost use Rattle.san_text.specs.Reading.{Reads, sign_at, name_at, number_at, number_or_none, many, gathered};

@@ -1,6 +1,6 @@
 ghost use Rattle.std.specs.Prelude.{◌≡◌, ◌≤◌, ℕ, List, Ok, Err, map, length, IfOk};
-ghost use Rattle.san_lex.specs.Lexing.{tokens, word_of};
-ghost use Rattle.san_lex.specs.Pieces.{placed, kind_word};
+ghost use Rattle.san_lex.specs.Lexer.{tokens, word_of};
+ghost use Rattle.san_lex.specs.Pieces.{located, kind_word};
 ghost use Rattle.san_text.specs.declared.text.ParseFault.TheVariants.{Refused};
 ghost use Rattle.san_text.specs.Texts.{spot_of, spot_after, refused, place_of, after_word, is_counted, spots_of, words_of, parsed, parsed_words, Parses};
 ghost use Rattle.san_text.specs.Models.{syntax_at};
@@ -81,7 +81,7 @@ fn refused(code: u32, text: &[u8], place: u32) -> Refusal
 #[tactic(auto, using(crate::proofs::SpotLemmas::place_at, crate::proofs::SpotLemmas::place_end))]
 fn place_of(text: &[u8], tokens: &[Token], left: usize) -> u32
     requires { length text.now ≤ 67108864 }
-    ensures { result ≡ place_of text.now (map (placed text.now) tokens.now) left }
+    ensures { result ≡ place_of text.now (map (located text.now) tokens.now) left }
 {
     let at = tokens.len().saturating_sub(left);
     if at < tokens.len() {
@@ -137,7 +137,7 @@ fn is_counted(before: Before, kind: Kind) -> bool
 /// The places of the names and numbers that count.
 #[tactic(auto, unfolding(crate::specs::Texts::spots_of))]
 fn spots_of(alloc: Global, text: &[u8], tokens: &[Token]) -> Result<Items<u32>, NoMemory>
-    ensures { IfOk result (λ s. s ≡ spots_of (map (placed text.now) tokens.now)) }
+    ensures { IfOk result (λ s. s ≡ spots_of (map (located text.now) tokens.now)) }
 {
     let mut found = Vec::new(alloc);
     let mut before = Before::Other;
@@ -154,9 +154,9 @@ fn spots_of(alloc: Global, text: &[u8], tokens: &[Token]) -> Result<Items<u32>, 
 #[tactic(auto, using(crate::proofs::SpotLemmas::words_are, crate::proofs::SpotLemmas::words_fit))]
 fn parse_tokens(alloc: Global, text: &[u8], found: &[Token]) -> Result<Parsed, ParseFault>
     requires size { length text.now ≤ 67108864 }
-    requires found { tokens text.now ≡ Ok (map (placed text.now) found.now) }
-    ensures { Parses result (parsed_words text.now (map (placed text.now) found.now) (syntax_at
-        (map word_of (map (placed text.now) found.now)))) }
+    requires found { tokens text.now ≡ Ok (map (located text.now) found.now) }
+    ensures { Parses result (parsed_words text.now (map (located text.now) found.now) (syntax_at
+        (map word_of (map (located text.now) found.now)))) }
 {
     match syntax_at(alloc, Words::new(text, found)) {
         Ok((syntax, left)) => match spots_of(alloc, text, found) {
@@ -177,7 +177,7 @@ fn parse_tokens(alloc: Global, text: &[u8], found: &[Token]) -> Result<Parsed, P
 
 fn refuse(code: u32, text: &[u8], tokens: &[Token], left: usize) -> ParseFault
     requires { length text.now ≤ 67108864 }
-    ensures { result ≡ Refused (refused code text.now (place_of text.now (map (placed text.now)
+    ensures { result ≡ Refused (refused code text.now (place_of text.now (map (located text.now)
         tokens.now) left)) }
 {
     ParseFault::Refused(refused(code, text, place_of(text, tokens, left)))

@@ -42,7 +42,7 @@ pub struct Words<'a> {
 
 impl<'a> Model for Words<'a> {
     ghost use Rattle.std.specs.Prelude.{List};
-    ghost use Rattle.san_lex.specs.Lexing.{Word};
+    ghost use Rattle.san_lex.specs.Lexer.{Word};
 
     ghost Value = { List Word };
 

@@ -1,25 +1,23 @@
 -- The tokens of a text, or its first fault.
-use Rattle.std.specs.Prelude.{ℕ, zero, suc, ◌+◌, ◌^◌, cond, nat_eq, nat_lt, List, [], ◌∷◌, length, map, Result, Ok, Err, Option, Some, None}
+use Rattle.std.specs.Prelude.{ℕ, zero, suc, ◌+◌, cond, nat_eq, nat_le, List, [], ◌∷◌, length, map, Result, Ok, Err, Option, Some, None}
 use Rattle.std.specs.Str.Parse.{digits_value}
 use Rattle.san_base.specs.declared.op.Op.TheVariants as op
 use Rattle.san_lex.specs.declared.sign.Keyword.{Keyword}
 use Rattle.san_lex.specs.declared.sign.Mark.TheVariants as mark
 use Rattle.san_lex.specs.declared.sign.Sign.{Sign}
 use Rattle.san_lex.specs.declared.sign.Sign.TheVariants as sign
-use Rattle.san_lex.specs.declared.token.Kind.{Kind}
-use Rattle.san_lex.specs.declared.token.Kind.TheVariants as kind
-use Rattle.san_lex.specs.declared.token.TokenKind.{TokenKind}
-use Rattle.san_lex.specs.declared.token.TokenKind.TheVariants as token_kind
+use Rattle.san_base.specs.declared.TheConstants.{MAX_NAME_BYTES}
+use Rattle.san_lex.specs.declared.TheConstants.{MAX_NUMBER}
 use Rattle.san_lex.specs.Bytes.{is_letter, is_digit, is_in_name, is_blank, is_in_line, run, first}
 use Rattle.san_lex.specs.Keywords.{keyword_of}
 
--- a token without its place
+-- a token without its offsets
 pub data Word : Type 0 where
   Number : (n : ℕ) → Word
   Name : (bytes : List ℕ) → Word
   Fixed : (s : Sign) → Word
 
--- the first fault of a text, and its place
+-- the first fault of a text, and the offset of its first byte
 pub data Fault : Type 0 where
   Bad : (at : ℕ) → Fault
   Large : (at : ℕ) → Fault
@@ -31,30 +29,19 @@ pub data Front : Type 0 where
   Token : (w : Word) (more : ℕ) → Front
   Broken : (fault : ℕ → Fault) → Front
 
-abbrev pub sign_form : Sign → TokenKind
-sign_form (sign.Keyword k) = token_kind.Keyword
-sign_form (sign.Mark m) = token_kind.Mark
-sign_form (sign.Operator o) = token_kind.Operator
-sign_form sign.Not = token_kind.Operator
-
-abbrev pub form_of : Kind → TokenKind
-form_of (kind.Number n) = token_kind.Number
-form_of kind.Name = token_kind.Name
-form_of (kind.Fixed s) = sign_form s
-
 abbrev pub name_word : Option Keyword → List ℕ → Word
 name_word None bs = Name bs
 name_word (Some k) bs = Fixed (sign.Keyword k)
 
--- a name or keyword: a letter and what can follow it, 64 bytes at most
+-- a name or keyword: a letter and what can follow it
 unfoldable pub named : List ℕ → Front
 named [] = Gap 0
-named (b ∷ bs) = cond (nat_lt 63 (length bs)) (Broken Long) (Token (name_word (keyword_of (b ∷ bs)) (b ∷ bs)) (length bs))
+named (b ∷ bs) = cond (nat_le MAX_NAME_BYTES (length bs)) (Broken Long) (Token (name_word (keyword_of (b ∷ bs)) (b ∷ bs)) (length bs))
 
--- a number: digits, below 2 ^ 63
+-- a number: digits
 unfoldable pub numbered : List ℕ → Front
 numbered [] = Gap 0
-numbered (b ∷ bs) = cond (nat_lt (digits_value 10 (b ∷ bs)) (2 ^ 63)) (Token (Number (digits_value 10 (b ∷ bs))) (length bs)) (Broken Large)
+numbered (b ∷ bs) = cond (nat_le (digits_value 10 (b ∷ bs)) MAX_NUMBER) (Token (Number (digits_value 10 (b ∷ bs))) (length bs)) (Broken Large)
 
 -- the marks: { } ( ) [ ] ; , . : =
 unfoldable pub mark_of : ℕ → Option Sign
@@ -104,33 +91,33 @@ more (Token w n) = n
 more (Broken f) = 0
 
 -- a token and where it stands
-pub record Placed : Type 0 where
+pub record Located : Type 0 where
   pub word : Word
   pub start : ℕ
   pub end : ℕ
 
-abbrev pub with_token : Placed → Result (List Placed) Fault → Result (List Placed) Fault
+abbrev pub with_token : Located → Result (List Located) Fault → Result (List Located) Fault
 with_token p (Ok ps) = Ok (p ∷ ps)
 with_token p (Err f) = Err f
 
-abbrev pub grown : Front → ℕ → Result (List Placed) Fault → Result (List Placed) Fault
+abbrev pub grown : Front → ℕ → Result (List Located) Fault → Result (List Located) Fault
 grown (Gap n) at rest = rest
 grown (Token w n) at rest = with_token (record { word = w; start = at; end = at + suc n }) rest
 grown (Broken f) at rest = Err (f at)
 
--- the tokens of the bytes from a place on, after so many that belong to what was before
-unfoldable pub lex : ℕ → ℕ → List ℕ → Result (List Placed) Fault
+-- the tokens of the bytes from an offset on, after so many that belong to what was before
+unfoldable pub lex : ℕ → ℕ → List ℕ → Result (List Located) Fault
 lex skip at [] = Ok []
 lex (suc k) at (b ∷ bs) = lex k (suc at) bs
 lex zero at (b ∷ bs) = grown (front b bs) at (lex (more (front b bs)) (suc at) bs)
 
-unfoldable pub tokens : List ℕ → Result (List Placed) Fault
+unfoldable pub tokens : List ℕ → Result (List Located) Fault
 tokens text = lex 0 0 text
 
-abbrev pub word_of : Placed → Word
+abbrev pub word_of : Located → Word
 word_of p = p.word
 
 -- the words alone
-abbrev pub heard : Result (List Placed) Fault → Result (List Word) Fault
+abbrev pub heard : Result (List Located) Fault → Result (List Word) Fault
 heard (Ok ps) = Ok (map word_of ps)
 heard (Err f) = Err f

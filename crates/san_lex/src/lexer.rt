@@ -1,5 +1,8 @@
+//! From a text to its tokens.
+
 ghost use Rattle.std.specs.Prelude.{◌≤◌, length};
-ghost use Rattle.san_lex.specs.Lexing.{tokens};
+ghost use Rattle.san_base.specs.declared.TheConstants.{MAX_TEXT_BYTES};
+ghost use Rattle.san_lex.specs.Lexer.{tokens};
 ghost use Rattle.san_lex.specs.Pieces.{LexGives};
 
 use crate::piece::{Piece, piece_at};
@@ -7,9 +10,9 @@ use crate::token::{LexFault, Token, Tokens};
 use std::alloc::Global;
 
 /// The tokens of a text, or its first fault. Blanks and comments stand between tokens, and each
-/// token is the longest that its place allows.
+/// token is the longest that can stand there.
 pub fn tokens(alloc: Global, text: &[u8]) -> Result<Tokens, LexFault>
-    requires { length text.now ≤ 67108864 }
+    requires { length text.now ≤ MAX_TEXT_BYTES }
     ensures { LexGives text.now result (tokens text.now) }
 {
     let mut found = Vec::new(alloc);
