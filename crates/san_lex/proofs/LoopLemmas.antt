@@ -1,6 +1,6 @@
 -- One turn of the loop that makes the tokens.
-use Rattle.std.proofs.Common.{◌≡◌, ℕ, zero, suc, ◌+◌, ◌-◌, ◌^◌, ◌<◌, ◌≤◌, Bool, true, false, cond, List, [], ◌∷◌, ◌++◌, length, map, take, drop, get_or, Result, Ok, Err, Option, Some, None, refl, sym, ap, subst, ◌∙◌, append_assoc, arith, drop-cons}
-use Rattle.std.specs.Prelude.{nat_eq, nat_lt}
+use Rattle.std.proofs.Common.{◌≡◌, ℕ, zero, suc, ◌+◌, ◌-◌, ◌<◌, ◌≤◌, Bool, true, false, cond, List, [], ◌∷◌, ◌++◌, length, map, take, drop, get_or, Result, Ok, Err, Option, Some, None, refl, sym, ap, subst, ◌∙◌, append_assoc, arith, drop-cons}
+use Rattle.std.specs.Prelude.{nat_eq, nat_le}
 use Rattle.std.specs.Str.Parse.{digits_value}
 use Rattle.std.proofs.lemmas.List.{append-nil, length-drop}
 use Rattle.san_lex.specs.declared.sign.Sign.{Sign}
@@ -9,10 +9,13 @@ use Rattle.san_lex.specs.declared.token.Kind.TheVariants as kind
 use Rattle.san_lex.specs.declared.token.Token as tok
 use Rattle.san_lex.specs.declared.piece.Piece.{Piece}
 use Rattle.san_lex.specs.declared.piece.Piece.TheVariants as piece
+use Rattle.san_base.specs.declared.limits.TheConstants.{MAX_NAME_BYTES}
+use Rattle.san_lex.specs.declared.byte.TheConstants.{MAX_NUMBER}
 use Rattle.san_lex.specs.Bytes.{is_letter, is_digit, is_in_name, is_blank, is_in_line, run, first}
 use Rattle.san_lex.specs.Keywords.{keyword_of}
 use Rattle.san_lex.specs.Lexer.{Word, Number, Name, Fault, Large, Long, Front, Gap, Token, Broken, name_word, named, numbered, single, double, sign_front, front, more, Located, with_token, grown, lex}
-use Rattle.san_lex.specs.Pieces.{kind_word, piece_front, located, IsFront}
+use Rattle.san_lex.specs.Pieces.{kind_word, located}
+use Rattle.san_lex.specs.inner.Fronts.{piece_front, IsFront}
 use Rattle.san_lex.proofs.PieceLemmas.{take_whole}
 
 -- what was found before, and what is still found
@@ -51,11 +54,11 @@ sign_within b (c ∷ bs) = signs_within (double b c) (single b) (length (c ∷ b
 
 named_within : (b : ℕ) (bs : List ℕ) (n : ℕ) → length bs ≤ n → more (named (b ∷ bs)) ≤ n
 unfolding named
-named_within b bs n h = within_cond (nat_lt 63 (length bs)) (Broken Long) (Token (name_word (keyword_of (b ∷ bs)) (b ∷ bs)) (length bs)) n (omega arith) h
+named_within b bs n h = within_cond (nat_le MAX_NAME_BYTES (length bs)) (Broken Long) (Token (name_word (keyword_of (b ∷ bs)) (b ∷ bs)) (length bs)) n (omega arith) h
 
 numbered_within : (b : ℕ) (bs : List ℕ) (n : ℕ) → length bs ≤ n → more (numbered (b ∷ bs)) ≤ n
 unfolding numbered
-numbered_within b bs n h = within_cond (nat_lt (digits_value 10 (b ∷ bs)) (2 ^ 63)) (Token (Number (digits_value 10 (b ∷ bs))) (length bs)) (Broken Large) n h (omega arith)
+numbered_within b bs n h = within_cond (nat_le (digits_value 10 (b ∷ bs)) MAX_NUMBER) (Token (Number (digits_value 10 (b ∷ bs))) (length bs)) (Broken Large) n h (omega arith)
 
 front_within : (b : ℕ) (bs : List ℕ) → more (front b bs) ≤ length bs
 unfolding front

@@ -1,7 +1,7 @@
 -- The keywords and how they are spelled.
 use Rattle.std.specs.Prelude.{ℕ, List, Option, codes, bytes_eq}
 use Rattle.std.specs.List.{find}
-use Rattle.san_lex.specs.declared.TheConstants.{KEYWORDS}
+use Rattle.san_lex.specs.declared.keyword.TheConstants.{KEYWORDS}
 use Rattle.san_lex.specs.declared.sign.Keyword.{Keyword}
 use Rattle.san_lex.specs.declared.sign.Keyword.TheVariants as keyword
 

@@ -1,13 +1,14 @@
 -- The tokens of a text, or its first fault.
 use Rattle.std.specs.Prelude.{ℕ, zero, suc, ◌+◌, cond, nat_eq, nat_le, List, [], ◌∷◌, length, map, Result, Ok, Err, Option, Some, None}
+use Rattle.std.specs.Option.{option_or}
 use Rattle.std.specs.Str.Parse.{digits_value}
 use Rattle.san_base.specs.declared.op.Op.TheVariants as op
 use Rattle.san_lex.specs.declared.sign.Keyword.{Keyword}
 use Rattle.san_lex.specs.declared.sign.Mark.TheVariants as mark
 use Rattle.san_lex.specs.declared.sign.Sign.{Sign}
 use Rattle.san_lex.specs.declared.sign.Sign.TheVariants as sign
-use Rattle.san_base.specs.declared.TheConstants.{MAX_NAME_BYTES}
-use Rattle.san_lex.specs.declared.TheConstants.{MAX_NUMBER}
+use Rattle.san_base.specs.declared.limits.TheConstants.{MAX_NAME_BYTES}
+use Rattle.san_lex.specs.declared.byte.TheConstants.{MAX_NUMBER}
 use Rattle.san_lex.specs.Bytes.{is_letter, is_digit, is_in_name, is_blank, is_in_line, run, first}
 use Rattle.san_lex.specs.Keywords.{keyword_of}
 
@@ -57,12 +58,8 @@ operator_of b =
     (cond (nat_eq b 42) (Some (sign.Operator op.Mul)) (cond (nat_eq b 47) (Some (sign.Operator op.Div)) (cond (nat_eq b 37) (Some (sign.Operator op.Rem)) (cond (nat_eq b 33) (Some sign.Not) None)))))))
 
 -- a sign of one byte
-abbrev pub either_sign : Option Sign → Option Sign → Option Sign
-either_sign (Some s) other = Some s
-either_sign None other = other
-
 unfoldable pub single : ℕ → Option Sign
-single b = either_sign (mark_of b) (operator_of b)
+single b = option_or (mark_of b) (operator_of b)
 
 -- a sign of two bytes: == != <= >= && ||
 unfoldable pub double : ℕ → ℕ → Option Sign

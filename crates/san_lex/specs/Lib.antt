@@ -4,3 +4,4 @@ pub mod Lexer
 pub mod Pieces
 pub mod Words
 pub mod Layout
+pub mod inner

@@ -1,7 +1,7 @@
 -- What the words of a text are like, and those of them that are names and numbers.
 use Rattle.std.specs.Prelude.{ℕ, ◌≡◌, ◌<◌, ◌≤◌, true, List, [], ◌∷◌, length, None}
-use Rattle.san_base.specs.declared.TheConstants.{MAX_NAME_BYTES}
-use Rattle.san_lex.specs.declared.TheConstants.{MAX_NUMBER}
+use Rattle.san_base.specs.declared.limits.TheConstants.{MAX_NAME_BYTES}
+use Rattle.san_lex.specs.declared.byte.TheConstants.{MAX_NUMBER}
 use Rattle.san_lex.specs.Bytes.{is_letter, is_in_name, each}
 use Rattle.san_lex.specs.Keywords.{keyword_of}
 use Rattle.san_lex.specs.Lexer.{Word, Number, Name, Fixed}

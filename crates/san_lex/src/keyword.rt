@@ -51,7 +51,7 @@ macro_rules! spelling {
 
 impl Keyword {
     /// How the keyword is spelled.
-    pub fn text(self) -> &'static [u8]
+    pub(crate) fn text(self) -> &'static [u8]
         ensures { result.now ≡ keyword_text self }
     {
         spelling! { self;
@@ -72,5 +72,8 @@ impl Keyword {
 pub(crate) fn keyword_of(word: &[u8]) -> Option<Keyword>
     ensures { result ≡ keyword_of word.now }
 {
-    KEYWORDS.iter().copied().find(|keyword| keyword.text() == word)
+    KEYWORDS
+        .iter()
+        .copied()
+        .find(|keyword| keyword.text() == word)
 }

@@ -1,7 +1,7 @@
 //! From a text to its tokens.
 
 ghost use Rattle.std.specs.Prelude.{◌≤◌, length};
-ghost use Rattle.san_base.specs.declared.TheConstants.{MAX_TEXT_BYTES};
+ghost use Rattle.san_base.specs.declared.limits.TheConstants.{MAX_TEXT_BYTES};
 ghost use Rattle.san_lex.specs.Lexer.{tokens};
 ghost use Rattle.san_lex.specs.Pieces.{LexGives};
 

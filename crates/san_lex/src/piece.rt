@@ -2,8 +2,8 @@
 
 ghost use Rattle.std.specs.Prelude.{◌≡◌, ℕ, List, true};
 ghost use Rattle.san_lex.specs.Bytes.{is_digit, first};
-ghost use Rattle.san_lex.specs.Lexer.{mark_of, operator_of, either_sign, single, double, sign_front, named, numbered, front};
-ghost use Rattle.san_lex.specs.Pieces.{piece_front, NameFront, NumberFront, IsFront};
+ghost use Rattle.san_lex.specs.Lexer.{mark_of, operator_of, single, double, sign_front, named, numbered, front};
+ghost use Rattle.san_lex.specs.inner.Fronts.{piece_front, NameFront, NumberFront, IsFront};
 
 use crate::byte::{
     digits_length, first, front_of, is_blank, is_digit, is_letter, line_length, name_length,
