@@ -8,7 +8,7 @@ use Rattle.san_text.specs.declared.syntax.Ast.{Ast}
 use Rattle.san_text.specs.declared.syntax.Ast.TheViews as ast
 use Rattle.san_text.specs.Spelling.{spelling}
 use Rattle.san_text.proofs.ExprLemmas.{spell_binary, spell_group, spell_cell}
-use Rattle.san_show.specs.Pages.{Written, put, written}
+use Rattle.san_show.specs.inner.Pages.{Written, put, written}
 use Rattle.san_show.proofs.PageLemmas.{also}
 
 pub group_shown : (e x x1 : Ast) (p p1 p2 p3 : Written) → e ≡ ast.Group x → x1 ≡ x → p1 ≡ put p (Fixed (sign.Mark mark.OpenParen)) → p2 ≡ written p1 (spelling x1) → p3 ≡ put p2 (Fixed (sign.Mark mark.CloseParen)) → p3 ≡ written p (spelling e)

@@ -4,7 +4,7 @@ use Rattle.san_lex.specs.declared.sign.Mark.TheVariants as mark
 use Rattle.san_lex.specs.declared.sign.Sign.TheVariants as sign
 use Rattle.san_lex.specs.Lexer.{Word, Fixed}
 use Rattle.san_text.specs.Words.{is_next, tail}
-use Rattle.san_text.specs.Reading.{Fault, Reads, ◌>>=◌, all_of, gathered, next_mark}
+use Rattle.san_text.specs.Steps.{Fault, Reads, ◌>>=◌, all_of, gathered, next_mark}
 use Rattle.san_text.specs.ActivityWords.{with_commas}
 use Rattle.san_text.proofs.FrontLemmas.{bind_ok, ok_is, then_ok, next_is, next_self}
 use Rattle.san_text.proofs.AlikeLemmas.{alike_is, alike_then, alike_front, alike_parts}

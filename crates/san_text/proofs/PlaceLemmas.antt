@@ -6,7 +6,7 @@ use Rattle.san_lex.specs.declared.sign.Sign.TheVariants as sign
 use Rattle.san_lex.specs.Lexer.{Word, Fixed}
 use Rattle.san_text.specs.declared.syntax.PlaceDecl.{PlaceDecl}
 use Rattle.san_text.specs.Words.{is_next, tail, has_arrays}
-use Rattle.san_text.specs.Reading.{next_mark, next_keyword}
+use Rattle.san_text.specs.Steps.{next_mark, next_keyword}
 use Rattle.san_text.specs.Activities.{length_at, initial_at, place_at}
 use Rattle.san_text.specs.ActivityWords.{length_words, initial_words, place_words}
 use Rattle.san_text.proofs.FrontLemmas.{next_is, next_self, and_false, both_true}

@@ -1,4 +1,4 @@
--- Places of tokens, and the places of the words that count.
+-- Offsets of tokens, and the offsets of the words that count.
 use Rattle.std.proofs.Common.{◌≡◌, ℕ, zero, suc, ◌+◌, ◌-◌, ◌<◌, ◌≤◌, Bool, true, false, cond, List, [], ◌∷◌, ◌++◌, length, map, drop, get_or, Ok, refl, sym, ap, subst, ◌∙◌, append_assoc, arith}
 use Rattle.std.proofs.lemmas.List.{length-map}
 use Rattle.san_lex.specs.declared.token.Token.{Token}
@@ -6,9 +6,9 @@ use Rattle.san_lex.specs.Lexer.{Word, tokens, word_of}
 use Rattle.san_lex.specs.Pieces.{located, kind_word}
 use Rattle.san_lex.specs.Words.{AreWords}
 use Rattle.san_lex.proofs.WordLemmas.{lex_words}
-use Rattle.san_text.specs.Words.{word, words}
+use Rattle.san_text.specs.inner.Tokens.{word, words}
 use Rattle.san_text.specs.declared.text.Before.{Before}
-use Rattle.san_text.specs.Texts.{start_or, place_of, is_counted, after_word, spots_after}
+use Rattle.san_text.specs.Texts.{start_or, offset_of, is_counted, after_word, spots_after}
 
 start_at : (text : List ℕ) (ts : List Token) (i : ℕ) (d : Token) (end : ℕ) → i < length ts → start_or end (drop i (map (located text) ts)) ≡ (get_or ts i d).start
 start_at text [] i d end lt = absurd (omega arith)
@@ -21,15 +21,15 @@ start_end text [] (suc i) end le = refl
 start_end text (t ∷ ts) zero end le = absurd (omega arith)
 start_end text (t ∷ ts) (suc i) end le = start_end text ts i end (omega arith)
 
-pub place_at : (text : List ℕ) (ts : List Token) (left i : ℕ) (d : Token) → i ≡ length ts - left → i < length ts → place_of text (map (located text) ts) left ≡ (get_or ts i d).start
-unfolding place_of
-place_at text ts left i d e lt =
+pub offset_at : (text : List ℕ) (ts : List Token) (left i : ℕ) (d : Token) → i ≡ length ts - left → i < length ts → offset_of text (map (located text) ts) left ≡ (get_or ts i d).start
+unfolding offset_of
+offset_at text ts left i d e lt =
     let same : length (map (located text) ts) - left ≡ i = omega (arith, length-map ts (located text)) in
     ap (λ (n : ℕ). start_or (length text) (drop n (map (located text) ts))) same ∙ start_at text ts i d (length text) lt
 
-pub place_end : (text : List ℕ) (ts : List Token) (left i : ℕ) → i ≡ length ts - left → length ts ≤ i → place_of text (map (located text) ts) left ≡ length text
-unfolding place_of
-place_end text ts left i e le =
+pub offset_end : (text : List ℕ) (ts : List Token) (left i : ℕ) → i ≡ length ts - left → length ts ≤ i → offset_of text (map (located text) ts) left ≡ length text
+unfolding offset_of
+offset_end text ts left i e le =
     let same : length (map (located text) ts) - left ≡ i = omega (arith, length-map ts (located text)) in
     ap (λ (n : ℕ). start_or (length text) (drop n (map (located text) ts))) same ∙ start_end text ts i (length text) le
 

@@ -8,7 +8,7 @@ use Rattle.san_text.specs.declared.syntax.StmtDecl.{StmtDecl}
 use Rattle.san_text.specs.declared.syntax.StmtDecl.TheViews as stmt
 use Rattle.san_text.specs.declared.syntax.StmtDecl.TheVariants as plain
 use Rattle.san_text.specs.Words.{is_next, tail, name_of, has_arrays}
-use Rattle.san_text.specs.Reading.{Illegal, Deep, Reads, ◌>>=◌, sign_at, many}
+use Rattle.san_text.specs.Steps.{Illegal, Deep, Reads, ◌>>=◌, sign_at, many}
 use Rattle.san_text.specs.Expressions.{expr}
 
 -- "[" expr "]" "=" expr ";"

@@ -1,3 +1,5 @@
+//! Laws of the grammar: what is spelled is read again, and a text is refused at its first fault.
+
 ghost use Rattle.std.specs.Prelude.{◌≡◌, ◌++◌, ℕ, suc, false, List, ◌∷◌, Ok, Err, map, length};
 ghost use Rattle.san_lex.specs.declared.sign.Keyword.TheVariants.{Else};
 ghost use Rattle.san_lex.specs.Lexer.{Word, Located, tokens, word_of};
@@ -10,7 +12,7 @@ ghost use Rattle.san_text.specs.declared.syntax.RewardDecl.{RewardDecl};
 ghost use Rattle.san_text.specs.declared.syntax.Syntax.{Syntax};
 ghost use Rattle.san_text.specs.declared.text.Parsed.{Parsed};
 ghost use Rattle.san_text.specs.Words.{look};
-ghost use Rattle.san_text.specs.Reading.{Fault, next_keyword};
+ghost use Rattle.san_text.specs.Steps.{Fault, next_keyword};
 ghost use Rattle.san_text.specs.Expressions.{expr};
 ghost use Rattle.san_text.specs.Statements.{block, stmt_at};
 ghost use Rattle.san_text.specs.Activities.{act_at};
