@@ -1,3 +1,5 @@
+//! What clap finds in the words of a command line.
+
 ghost use Rattle.std.specs.Prelude.{◌≡◌, map, string_bytes, true};
 ghost use Rattle.clap.specs.Words.{app_of, is_simple, is_simple_and_free};
 ghost use Rattle.san_words.specs.Hears.{Finds};
@@ -12,10 +14,7 @@ pub(crate) enum Unheard {
 }
 
 /// What a command finds in words.
-pub(crate) fn found<'a>(
-    command: Command<'a>,
-    words: &'a [String],
-) -> Result<ArgMatches<'a>, Unheard>
+pub(crate) fn find<'a>(command: Command<'a>, words: &'a [String]) -> Result<ArgMatches<'a>, Unheard>
     requires simple { is_simple (app_of command) ≡ true }
     requires free { is_simple_and_free (app_of command) ≡ true }
     ensures { Finds (app_of command.entry) (map string_bytes words.now) result }

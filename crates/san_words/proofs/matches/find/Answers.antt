@@ -1,7 +1,7 @@
 use Rattle.std.proofs.Common.{ap, ◌∙◌}
 use Rattle.clap.specs.Words.{found_of, one_of}
 use Rattle.clap.proofs.WalkLemmas.{one_text-rows}
-use Rattle.san_words.proofs.finding.found.Goals as goal
+use Rattle.san_words.proofs.matches.find.Goals as goal
 
 pub returns-in-Ok : goal.returns-in-Ok
 returns-in-Ok c =

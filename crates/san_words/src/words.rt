@@ -1,11 +1,14 @@
+//! The words of a command line, heard: the run that they order, or that the program's command doesn't
+//! take them.
+
 ghost use Rattle.std.specs.Prelude.{map, string_bytes};
 ghost use Rattle.san_words.specs.Commands.{plain_app, run_app};
 ghost use Rattle.san_words.specs.Hears.{CanRun, Hears, OrdersSay, PlainSay};
 
 use crate::command::{plain_command, run_command};
-use crate::finding::{Unheard, found};
+use crate::matches::{Unheard, find};
 use crate::orders::Heard;
-use crate::said::{plain_said, run_said};
+use crate::values::{plain_orders, run_orders};
 use std::alloc::Global;
 
 /// The run that the words of `sanrun` order; Refused where its command doesn't take them.
@@ -16,8 +19,8 @@ pub fn hear(alloc: Global, words: &[String]) -> Heard
     let Ok(command) = run_command(alloc) else {
         return Heard::NoMemory;
     };
-    match found(command, words) {
-        Ok(matches) => Heard::Run(run_said(&matches)),
+    match find(command, words) {
+        Ok(matches) => Heard::Run(run_orders(&matches)),
         Err(Unheard::Refused) => Heard::Refused,
         Err(Unheard::NoMemory) => Heard::NoMemory,
     }
@@ -31,8 +34,8 @@ pub fn hear_plain(alloc: Global, words: &[String]) -> Heard
     let Ok(command) = plain_command(alloc) else {
         return Heard::NoMemory;
     };
-    match found(command, words) {
-        Ok(matches) => Heard::Run(plain_said(&matches)),
+    match find(command, words) {
+        Ok(matches) => Heard::Run(plain_orders(&matches)),
         Err(Unheard::Refused) => Heard::Refused,
         Err(Unheard::NoMemory) => Heard::NoMemory,
     }
