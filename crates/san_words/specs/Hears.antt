@@ -11,6 +11,7 @@ use Rattle.san_words.specs.Commands.{IsTaken}
 use Rattle.san_words.specs.Options.{Row, default_in, least_of, most_of, row_of}
 use Rattle.san_words.specs.declared.matches.Unheard.{Unheard}
 use Rattle.san_words.specs.declared.matches.Unheard.TheVariants as unheard
+use Rattle.san_words.specs.declared.options.TheConstants.{MAX_WORKERS}
 use Rattle.san_words.specs.declared.options.NumberOption.{NumberOption}
 use Rattle.san_words.specs.declared.options.NumberOption.TheVariants.{Burst, Events, Horizon, Rollbacks, Seed, Window, Workers}
 use Rattle.san_words.specs.declared.orders.Orders.{Orders}
@@ -82,6 +83,6 @@ Hears Say app words NoMemory = Unit {0}
 
 -- what is heard can be run
 abbrev pub CanRun : Heard → Type 0
-CanRun (Run o) = IsInRange o.limits × (o.workers ≤ 64)
+CanRun (Run o) = IsInRange o.limits × (o.workers ≤ MAX_WORKERS)
 CanRun Refused = Unit {0}
 CanRun NoMemory = Unit {0}

@@ -4,6 +4,11 @@ ghost use Rattle.std.specs.Prelude.{◌≡◌, decimal};
 ghost use Rattle.san_words.specs.Options.{least_of, most_of, optional, required, row_of};
 ghost use Rattle.san_words.specs.inner.Rows.{IsRow, default_of};
 
+use san_base::{MAX_BURST, MAX_EVENTS, MAX_HORIZON, MAX_ROLLBACKS, MAX_WINDOW};
+
+/// The most threads that run ahead, beside the caller.
+pub const MAX_WORKERS: u32 = 64;
+
 /// An option of the programs, which sets one whole number.
 #[derive(Clone, Copy, Debug, PartialEq, Eq)]
 pub enum NumberOption {
@@ -47,23 +52,23 @@ impl NumberRange {
 
 /// A number, and the text that writes it.
 #[derive(Clone, Copy)]
-pub(crate) struct DefaultNumber {
+pub(crate) struct DefaultNumber<'a> {
     pub(crate) number: u64,
-    pub(crate) text: &'static str,
+    pub(crate) text: &'a str,
 }
 
 /// A row of the table. Without a default the option must be there.
 #[derive(Clone, Copy)]
-pub(crate) struct OptionRow {
-    pub(crate) name: &'static str,
+pub(crate) struct OptionRow<'a> {
+    pub(crate) name: &'a str,
     pub(crate) range: NumberRange,
-    pub(crate) default: Option<DefaultNumber>,
+    pub(crate) default: Option<DefaultNumber<'a>>,
 }
 
-impl OptionRow {
+impl OptionRow<'_> {
     /// The number where the option isn't there.
     pub(crate) fn default_number(self) -> u64
-        ensures { result ≡ default_of self.default }
+        ensures { result ≡ default_of self.entry.default }
     {
         match self.default {
             Some(default) => default.number,
@@ -72,8 +77,8 @@ impl OptionRow {
     }
 }
 
-fn required(name: &'static str, range: NumberRange) -> OptionRow
-    ensures { IsRow (required name.now range) result }
+fn required<'a>(name: &'a str, range: NumberRange) -> OptionRow<'a>
+    ensures { IsRow (required name.entry.now range) result }
 {
     OptionRow {
         name,
@@ -82,9 +87,9 @@ fn required(name: &'static str, range: NumberRange) -> OptionRow
     }
 }
 
-fn optional(name: &'static str, range: NumberRange, number: u64, text: &'static str) -> OptionRow
+fn optional<'a>(name: &'a str, range: NumberRange, number: u64, text: &'a str) -> OptionRow<'a>
     requires { text.now ≡ decimal number }
-    ensures { IsRow (optional name.now range number) result }
+    ensures { IsRow (optional name.entry.now range number) result }
 {
     OptionRow {
         name,
@@ -94,18 +99,22 @@ fn optional(name: &'static str, range: NumberRange, number: u64, text: &'static 
 }
 
 /// The table.
-#[tactic(auto, unfolding(std::specs::Fmt::digits))]
-pub(crate) fn row(option: NumberOption) -> OptionRow
+pub(crate) fn row<'a>(option: NumberOption) -> OptionRow<'a>
     ensures { IsRow (row_of option) result }
 {
     use NumberRange::{Signed, Unsigned};
     match option {
         NumberOption::Seed => required("seed", Unsigned(0, u64::MAX)),
-        NumberOption::Horizon => required("horizon", Unsigned(0, 1_000_000_000_000)),
-        NumberOption::Burst => optional("burst", Signed(1, 10_000), 1_000, "1000"),
-        NumberOption::Events => optional("events", Unsigned(1, 10_000_000), 1_000_000, "1000000"),
-        NumberOption::Workers => optional("workers", Signed(0, 64), 4, "4"),
-        NumberOption::Window => optional("window", Signed(1, 64), 16, "16"),
-        NumberOption::Rollbacks => optional("rollbacks", Unsigned(0, 1_000_000), 10_000, "10000"),
+        NumberOption::Horizon => required("horizon", Unsigned(0, MAX_HORIZON)),
+        NumberOption::Burst => optional("burst", Signed(1, MAX_BURST), 1_000, "1000"),
+        NumberOption::Events => optional("events", Unsigned(1, MAX_EVENTS), 1_000_000, "1000000"),
+        NumberOption::Workers => optional("workers", Signed(0, MAX_WORKERS), 4, "4"),
+        NumberOption::Window => optional("window", Signed(1, MAX_WINDOW), 16, "16"),
+        NumberOption::Rollbacks => optional(
+            "rollbacks",
+            Unsigned(0, MAX_ROLLBACKS),
+            10_000,
+            "10000",
+        ),
     }
 }

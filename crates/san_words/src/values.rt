@@ -3,6 +3,8 @@
 ghost use Rattle.std.specs.Prelude.{◌≡◌, ◌≤◌};
 ghost use Rattle.clap.specs.Words.{found_of, one_text};
 ghost use Rattle.san_base.specs.Limits.{IsInRange};
+ghost use Rattle.san_base.specs.declared.limits.TheConstants.{MAX_ROLLBACKS, MAX_WINDOW};
+ghost use Rattle.san_words.specs.declared.options.TheConstants.{MAX_WORKERS};
 ghost use Rattle.san_words.specs.Hears.{BoundsSay, OrdersSay, PlainSay, Says, SetsNumber};
 ghost use Rattle.san_words.specs.Options.{least_of, most_of, row_of};
 
@@ -33,8 +35,8 @@ fn value(matches: &ArgMatches<'_>, option: NumberOption) -> u64
 
 /// The seed and the bounds, of a run that may be so far ahead.
 fn bounded(matches: &ArgMatches<'_>, window: u32, rollbacks: u64, workers: u32) -> Orders
-    requires window { (1 ≤ window) × (window ≤ 64) }
-    requires rollbacks { rollbacks ≤ 1000000 }
+    requires window { (1 ≤ window) × (window ≤ MAX_WINDOW) }
+    requires rollbacks { rollbacks ≤ MAX_ROLLBACKS }
     ensures bounds { BoundsSay (one_text (found_of matches.now)) result.seed result.limits }
     ensures window { result.limits.window ≡ window }
     ensures rollbacks { result.limits.rollbacks ≡ rollbacks }
@@ -58,7 +60,7 @@ fn bounded(matches: &ArgMatches<'_>, window: u32, rollbacks: u64, workers: u32) 
 pub(crate) fn run_orders(matches: &ArgMatches<'_>) -> Orders
     ensures say { OrdersSay (one_text (found_of matches.now)) result }
     ensures in_range { IsInRange result.limits }
-    ensures workers { result.workers ≤ 64 }
+    ensures workers { result.workers ≤ MAX_WORKERS }
 {
     let window = value(matches, Window) as u32;
     let rollbacks = value(matches, Rollbacks);
@@ -70,7 +72,7 @@ pub(crate) fn run_orders(matches: &ArgMatches<'_>) -> Orders
 pub(crate) fn plain_orders(matches: &ArgMatches<'_>) -> Orders
     ensures say { PlainSay (one_text (found_of matches.now)) result }
     ensures in_range { IsInRange result.limits }
-    ensures workers { result.workers ≤ 64 }
+    ensures workers { result.workers ≤ MAX_WORKERS }
 {
     let window = row(Window).default_number() as u32;
     let rollbacks = row(Rollbacks).default_number();
