@@ -1,5 +1,5 @@
 ghost use Rattle.std.specs.Prelude.{◌≡◌, ◌++◌, codes, decimal, IfOk, OnOk};
-ghost use Rattle.san_cmd.specs.Notes.{Concludes, Noted, code_digits, refusal_line, status_line};
+ghost use Rattle.san_serve.specs.Notes.{Concludes, Noted, code_digits, refusal_line, status_line};
 
 use itoa::Buffer;
 use san_base::{NoMemory, Sink, Status, put_all};

@@ -1,8 +1,8 @@
 ghost use Rattle.std.specs.Prelude.{◌≡◌, ◌≤◌, length, Ok, IfOk};
 ghost use Rattle.san_text.specs.Texts.{parsed, refused};
-ghost use Rattle.san_cmd.specs.Accepted.{Accepts, accepted, composition_of, limit_of, place_of_word, within_limits};
+ghost use Rattle.san_serve.specs.Accepted.{Accepts, accepted, composition_of, limit_of, place_of_word, within_limits};
 ghost use Rattle.san_flat.specs.Networks.{composition_in};
-ghost use Rattle.san_cmd.specs.declared.acceptance.NotAccepted.TheVariants as not_accepted;
+ghost use Rattle.san_serve.specs.declared.acceptance.NotAccepted.TheVariants as not_accepted;
 
 use san_check::{CheckFault, Model, check};
 use san_flat::{FlatFault, flatten};

@@ -14,8 +14,8 @@ use Rattle.san_check.specs.Texts.{syntax_fault}
 use Rattle.san_check.specs.declared.walk.Fault.{Fault}
 use Rattle.san_flat.specs.Networks.{Composition, count_of_acts, count_of_leaves, count_of_places, network_in}
 use Rattle.san_net.specs.Network.{Network}
-use Rattle.san_cmd.specs.declared.acceptance.NotAccepted.{NotAccepted}
-use Rattle.san_cmd.specs.declared.acceptance.NotAccepted.TheVariants as not_accepted
+use Rattle.san_serve.specs.declared.acceptance.NotAccepted.{NotAccepted}
+use Rattle.san_serve.specs.declared.acceptance.NotAccepted.TheVariants as not_accepted
 
 -- what a syntax is composed of, whether or not it passes the checks
 abbrev pub composition_of : Syntax → Composition

@@ -22,9 +22,9 @@ use Rattle.san_flat.specs.Networks.{Composition, composition_in, count_of_acts, 
 use Rattle.san_flat.specs.declared.flattening.FlatFault.{FlatFault}
 use Rattle.san_flat.specs.declared.flattening.FlatFault.TheVariants as fault
 use Rattle.san_net.specs.Network.{Network}
-use Rattle.san_cmd.specs.Accepted.{Accepts, accepted, accepted_syntax, checked, composition_of, limit_of, place_of_word, within_limits}
-use Rattle.san_cmd.specs.declared.acceptance.NotAccepted.{NotAccepted}
-use Rattle.san_cmd.proofs.PlaceLemmas.{few_spots}
+use Rattle.san_serve.specs.Accepted.{Accepts, accepted, accepted_syntax, checked, composition_of, limit_of, place_of_word, within_limits}
+use Rattle.san_serve.specs.declared.acceptance.NotAccepted.{NotAccepted}
+use Rattle.san_serve.proofs.PlaceLemmas.{few_spots}
 
 pub is_read : (text : List ℕ) (x : Parsed) → length text ≤ 67108864 → parsed text ≡ Ok x → IsRead x.syntax
 is_read text x short is = record { text = text; found = x; short = short; parses = is; syntax = refl }

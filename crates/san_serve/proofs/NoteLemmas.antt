@@ -5,8 +5,8 @@ use Rattle.san_base.specs.Flow.{Appends, AppendsPrefix, Rose}
 use Rattle.san_base.specs.declared.status.Status.{Status}
 use Rattle.san_base.specs.declared.status.Status.TheVariants as status
 use Rattle.san_text.specs.declared.text.Refusal.{Refusal}
-use Rattle.san_cmd.specs.Answers.{Answers, IsRefused, OfText, Serves}
-use Rattle.san_cmd.specs.Notes.{Concludes, IsLine, Noted, status_line}
+use Rattle.san_serve.specs.Answers.{Answers, IsRefused, OfText, Serves}
+use Rattle.san_serve.specs.Notes.{Concludes, IsLine, Noted, status_line}
 
 -- a line that was put, whole or in part
 pub noted_by : (done : Bool) (a b : Option (List ℕ)) (f g : ℕ) (line : List ℕ) → MatchBool done (Appends a b line) (AppendsPrefix a b line) → MatchBool done (Unit {0}) (Rose f g) → Noted a b f g line

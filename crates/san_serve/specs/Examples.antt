@@ -2,8 +2,8 @@
 use Rattle.std.specs.Prelude.{◌≡◌, codes, Some, None}
 use Rattle.std.specs.Fmt.{digits}
 use Rattle.std.proofs.Common.{refl}
-use Rattle.san_cmd.specs.Accepted.{limit_code}
-use Rattle.san_cmd.specs.Notes.{refusal_line}
+use Rattle.san_serve.specs.Accepted.{limit_code}
+use Rattle.san_serve.specs.Notes.{refusal_line}
 
 first_byte : refusal_line (record { code = 3; line = 1; column = 25 }) ≡ codes "refused E03 1 25\n"
 unfolding refusal_line digits
