@@ -22,11 +22,13 @@ use Rattle.san_flat.specs.Networks.{Composition, composition_in, count_of_acts, 
 use Rattle.san_flat.specs.declared.flattening.FlatFault.{FlatFault}
 use Rattle.san_flat.specs.declared.flattening.FlatFault.TheVariants as fault
 use Rattle.san_net.specs.Network.{Network}
-use Rattle.san_serve.specs.Accepted.{Accepts, accepted, accepted_syntax, checked, composition_of, limit_of, place_of_word, within_limits}
+use Rattle.san_serve.specs.Accepted.{AcceptsNetwork, accepted, accepted_syntax, checked, composition_of, limit_of, offset_of_word, within_limits}
+use Rattle.san_base.specs.declared.limits.TheConstants.{MAX_ACTS, MAX_LEAVES, MAX_PLACES, MAX_TEXT_BYTES}
+use Rattle.san_serve.specs.declared.codes.TheConstants.{TOO_MANY_ACTS, TOO_MANY_LEAVES, TOO_MANY_PLACES}
 use Rattle.san_serve.specs.declared.acceptance.NotAccepted.{NotAccepted}
-use Rattle.san_serve.proofs.PlaceLemmas.{few_spots}
+use Rattle.san_serve.proofs.OffsetLemmas.{few_spots}
 
-pub is_read : (text : List ℕ) (x : Parsed) → length text ≤ 67108864 → parsed text ≡ Ok x → IsRead x.syntax
+pub is_read : (text : List ℕ) (x : Parsed) → length text ≤ MAX_TEXT_BYTES → parsed text ≡ Ok x → IsRead x.syntax
 is_read text x short is = record { text = text; found = x; short = short; parses = is; syntax = refl }
 
 pub composed : (m : Model) (s : Syntax) → m.system ≡ s.system → m.atomics ≡ atomics_of s → m.tree.nodes ≡ nodes_of s → m.tree.root ≡ root_of s → m.rewards ≡ rewards_of s → m.cells ≡ elements_of s
@@ -37,12 +39,12 @@ composed m s system atomics nodes root rewards cells = cc
 
 abbrev Coded : Option FlatFault → Option ℕ → Type 0
 Coded None number = number ≡ None
-Coded (Some fault.Leaves) number = number ≡ Some 50
-Coded (Some fault.Places) number = number ≡ Some 51
-Coded (Some fault.Acts) number = number ≡ Some 52
+Coded (Some fault.Leaves) number = number ≡ Some TOO_MANY_LEAVES
+Coded (Some fault.Places) number = number ≡ Some TOO_MANY_PLACES
+Coded (Some fault.Acts) number = number ≡ Some TOO_MANY_ACTS
 Coded (Some fault.NoMemory) number = Unit {0}
 
-coded_as : (a b c : Bool) → Coded (if a then Some fault.Leaves else if b then Some fault.Places else if c then Some fault.Acts else None) (code 50 a else code 51 b else code 52 c)
+coded_as : (a b c : Bool) → Coded (if a then Some fault.Leaves else if b then Some fault.Places else if c then Some fault.Acts else None) (code TOO_MANY_LEAVES a else code TOO_MANY_PLACES b else code TOO_MANY_ACTS c)
 coded_as true b c = refl
 coded_as false true c = refl
 coded_as false false true = refl
@@ -52,7 +54,7 @@ code_at : (m : Model) (c : Composition) (o : Option FlatFault) → composition_i
 code_at m c o is e =
     subst (λ (d : Composition). Coded o (limit_of d)) is
     (subst (λ (p : Option FlatFault). Coded p (limit_of (composition_in m))) e
-    (coded_as (nat_lt 4096 (count_of_leaves (composition_in m))) (nat_lt 65536 (count_of_places (composition_in m))) (nat_lt 65536 (count_of_acts (composition_in m)))))
+    (coded_as (nat_lt MAX_LEAVES (count_of_leaves (composition_in m))) (nat_lt MAX_PLACES (count_of_places (composition_in m))) (nat_lt MAX_ACTS (count_of_acts (composition_in m)))))
 
 pub fits : (text : List ℕ) (x : Parsed) (m : Model) (n : Network) → composition_in m ≡ composition_of x.syntax → n ≡ network_of_model m → limit_passed m ≡ None → within_limits text x (limit_of (composition_of x.syntax)) ≡ Ok n
 fits text x m n is same none =
@@ -61,15 +63,15 @@ fits text x m n is same none =
     ap (within_limits text x) (code_at m (composition_of x.syntax) None is none) ∙ ap accepts (sym is_network)
 
 pub has_many_leaves : (text : List ℕ) (x : Parsed) (m : Model) → composition_in m ≡ composition_of x.syntax → limit_passed m ≡ Some fault.Leaves
-    → within_limits text x (limit_of (composition_of x.syntax)) ≡ Err (refused 50 text x.system)
+    → within_limits text x (limit_of (composition_of x.syntax)) ≡ Err (refused TOO_MANY_LEAVES text x.system)
 has_many_leaves text x m is e = ap (within_limits text x) (code_at m (composition_of x.syntax) (Some fault.Leaves) is e)
 
 pub has_many_places : (text : List ℕ) (x : Parsed) (m : Model) → composition_in m ≡ composition_of x.syntax → limit_passed m ≡ Some fault.Places
-    → within_limits text x (limit_of (composition_of x.syntax)) ≡ Err (refused 51 text x.system)
+    → within_limits text x (limit_of (composition_of x.syntax)) ≡ Err (refused TOO_MANY_PLACES text x.system)
 has_many_places text x m is e = ap (within_limits text x) (code_at m (composition_of x.syntax) (Some fault.Places) is e)
 
 pub has_many_acts : (text : List ℕ) (x : Parsed) (m : Model) → composition_in m ≡ composition_of x.syntax → limit_passed m ≡ Some fault.Acts
-    → within_limits text x (limit_of (composition_of x.syntax)) ≡ Err (refused 52 text x.system)
+    → within_limits text x (limit_of (composition_of x.syntax)) ≡ Err (refused TOO_MANY_ACTS text x.system)
 has_many_acts text x m is e = ap (within_limits text x) (code_at m (composition_of x.syntax) (Some fault.Acts) is e)
 
 -- ---- checks
@@ -78,25 +80,31 @@ accepted_by : (text : List ℕ) (x : Parsed) (f : Option Fault) → parsed text 
 unfolding accepted
 accepted_by text x f is e = ap (accepted_syntax text) is ∙ ap (checked text x) e
 
-pub passes : (text : List ℕ) (x : Parsed) (r : Result Network NotAccepted) → parsed text ≡ Ok x → syntax_fault x.syntax ≡ None → Accepts r (within_limits text x (limit_of (composition_of x.syntax)))
-    → Accepts r (accepted text)
-passes text x r is none h = subst (Accepts r) (sym (accepted_by text x None is none)) h
+pub passes : (text : List ℕ) (x : Parsed) (r : Result Network NotAccepted) → parsed text ≡ Ok x → syntax_fault x.syntax ≡ None → AcceptsNetwork r (within_limits text x (limit_of (composition_of x.syntax)))
+    → AcceptsNetwork r (accepted text)
+passes text x r is none h = subst (AcceptsNetwork r) (sym (accepted_by text x None is none)) h
 
 told_at : (text : List ℕ) (x : Parsed) (number word : ℕ) (f : Option Fault) → ((g : Fault) → f ≡ Some g → g.word ≤ 4294967295) → option_map told f ≡ Some (record { code = number; word = word })
-    → checked text x f ≡ Err (refused number text (place_of_word x word))
+    → checked text x f ≡ Err (refused number text (offset_of_word x word))
 told_at text x number word None small e = absurd cc
 told_at text x number word (Some g) small e =
     let is : told g ≡ record { code = number; word = word } = cc in
     let below = small g refl in
     let first : g.code ≡ number = ap (λ (h : Fault). h.code) is in
     let second : g.word ≡ word = omega (arith, below, ap (λ (h : Fault). h.word) is) in
-    ap (λ (n : ℕ). let r : Result Network Refusal = Err (refused n text (place_of_word x g.word)) in r) first
-    ∙ ap (λ (w : ℕ). let r : Result Network Refusal = Err (refused number text (place_of_word x w)) in r) second
+    ap (λ (n : ℕ). let r : Result Network Refusal = Err (refused n text (offset_of_word x g.word)) in r) first
+    ∙ ap (λ (w : ℕ). let r : Result Network Refusal = Err (refused number text (offset_of_word x w)) in r) second
 
-pub fails : (text : List ℕ) (x : Parsed) (number word : ℕ) → length text ≤ 67108864 → parsed text ≡ Ok x → option_map told (syntax_fault x.syntax) ≡ Some (record { code = number; word = word })
-    → accepted text ≡ Err (refused number text (place_of_word x word))
+pub fails : (text : List ℕ) (x : Parsed) (number word : ℕ) → length text ≤ MAX_TEXT_BYTES → parsed text ≡ Ok x → option_map told (syntax_fault x.syntax) ≡ Some (record { code = number; word = word })
+    → accepted text ≡ Err (refused number text (offset_of_word x word))
 fails text x number word short is e =
     let few = few_spots text x is in
     let same = spots_length text x is in
     accepted_by text x (syntax_fault x.syntax) is refl
     ∙ told_at text x number word (syntax_fault x.syntax) (λ g at. let there = word_is_there x.syntax g at in omega (arith, few, same, there, short)) e
+
+-- ---- grammar
+
+pub not_parsed : (text : List ℕ) (refusal : Refusal) → parsed text ≡ Err refusal → accepted text ≡ Err refusal
+unfolding accepted
+not_parsed text refusal is = ap (accepted_syntax text) is

@@ -8,15 +8,15 @@ use Rattle.san_text.specs.declared.text.Parsed.{Parsed}
 use Rattle.san_text.specs.Texts.{parsed, is_counted, after_word, spots_after, spots_of}
 use Rattle.san_text.proofs.CountLemmas.{reading_of}
 
-one_more : (c : Bool) (place n : ℕ) (places : List ℕ) → length places ≤ n → length (cond c (place ∷ places) places) ≤ suc n
-one_more true place n places h = omega (arith, h)
-one_more false place n places h = omega (arith, h)
+one_more : (c : Bool) (offset n : ℕ) (offsets : List ℕ) → length offsets ≤ n → length (cond c (offset ∷ offsets) offsets) ≤ suc n
+one_more true offset n offsets h = omega (arith, h)
+one_more false offset n offsets h = omega (arith, h)
 
 spots_within : (b : Before) (ps : List Placed) → length (spots_after b ps) ≤ length ps
 spots_within b [] = omega arith
 spots_within b (p ∷ ps) = one_more (is_counted b p.word) p.start (length ps) (spots_after (after_word b p.word) ps) (spots_within (after_word b p.word) ps)
 
--- the places of a text's words are no more than its bytes
+-- a text's words are no more than its bytes
 pub few_spots : (text : List ℕ) (x : Parsed) → parsed text ≡ Ok x → length x.spots ≤ length text
 unfolding spots_of
 few_spots text x e =

@@ -3,12 +3,12 @@ use Rattle.std.specs.Prelude.{ℕ, ◌+◌, ◌≤◌, List, Option, length}
 use Rattle.san_base.specs.Flow.{IsUsedUp, Takes, TakesFirst}
 use Rattle.san_base.specs.declared.limits.TheConstants.{MAX_MODEL_BYTES}
 use Rattle.san_serve.specs.declared.bound.Bound.{Bound}
-use Rattle.san_serve.specs.declared.bound.TheConstants.{LONG_MODEL}
+use Rattle.san_serve.specs.declared.codes.TheConstants.{TEXT_TOO_LONG}
 use Rattle.san_text.specs.declared.text.Refusal.{Refusal}
 
 -- E01
 abbrev pub model_bound : Bound
-model_bound = record { bytes = MAX_MODEL_BYTES; code = LONG_MODEL }
+model_bound = record { bytes = MAX_MODEL_BYTES; code = TEXT_TOO_LONG }
 
 -- a refusal without a place in the text
 abbrev pub too_long : Bound → Refusal

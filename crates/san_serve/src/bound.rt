@@ -3,6 +3,7 @@
 ghost use Rattle.std.specs.Prelude.{◌≡◌};
 ghost use Rattle.san_serve.specs.Bounds.{model_bound, too_long};
 
+use crate::codes::TEXT_TOO_LONG;
 use san_base::MAX_MODEL_BYTES;
 use san_text::Refusal;
 
@@ -13,16 +14,13 @@ pub struct Bound {
     pub code: u32,
 }
 
-/// E01: a model text that is too long.
-const LONG_MODEL: u32 = 1;
-
 /// That of the programs that read a model text.
 pub fn model_bound() -> Bound
     ensures { result ≡ model_bound }
 {
     Bound {
         bytes: MAX_MODEL_BYTES,
-        code: LONG_MODEL,
+        code: TEXT_TOO_LONG,
     }
 }
 

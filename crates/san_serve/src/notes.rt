@@ -1,5 +1,8 @@
+//! The line of the notes: what went wrong.
+
 ghost use Rattle.std.specs.Prelude.{◌≡◌, ◌++◌, codes, decimal, IfOk, OnOk};
-ghost use Rattle.san_serve.specs.Notes.{Concludes, Noted, code_digits, refusal_line, status_line};
+ghost use Rattle.san_serve.specs.Notes.{Noted, code_digits, refusal_line, status_line};
+ghost use Rattle.san_serve.specs.inner.Serving.{Concludes};
 
 use itoa::Buffer;
 use san_base::{NoMemory, Sink, Status, put_all};
@@ -55,33 +58,40 @@ fn status_line(status: Status) -> &'static str
 
 /// Puts a line, of which a front part stands there where the notes fail.
 #[tactic(auto, using(crate::proofs::NoteLemmas::noted_by))]
-pub fn note<N: Sink>(notes: &mut N, line: &[u8])
+fn note<N: Sink>(notes: &mut N, line: &[u8])
     ensures { Noted (N.held notes.old) (N.held notes.new) (N.faults notes.old)
         (N.faults notes.new) line.now }
 {
     let _ = put_all(notes, line);
 }
 
-/// The status that an answer comes to, whose line is put into the notes. A note that fails changes
-/// no status.
-pub fn conclude<N: Sink>(alloc: Global, answer: Result<Status, Refusal>, notes: &mut N) -> Status
+/// Puts a status's line into the notes, and answers the status. A note that fails changes no status.
+pub fn end_with<N: Sink>(status: Status, notes: &mut N) -> Status
+    ensures same { result ≡ status }
+    ensures noted { Noted (N.held notes.old) (N.held notes.new) (N.faults notes.old)
+        (N.faults notes.new) (status_line status) }
+{
+    note(notes, status_line(status).as_bytes());
+    status
+}
+
+/// The status that an answer comes to, whose line is put into the notes.
+pub(crate) fn conclude<N: Sink>(
+    alloc: Global,
+    answer: Result<Status, Refusal>,
+    notes: &mut N,
+) -> Status
     ensures { Concludes answer result (λ line. Noted (N.held notes.old) (N.held notes.new)
         (N.faults notes.old) (N.faults notes.new) line) }
 {
     match answer {
-        Ok(status) => {
-            note(notes, status_line(status).as_bytes());
-            status
-        }
+        Ok(status) => end_with(status, notes),
         Err(refusal) => match refusal_line(alloc, refusal) {
             Ok(line) => {
                 note(notes, line.as_slice());
                 Status::Refused
             }
-            Err(_) => {
-                note(notes, status_line(Status::NoMemory).as_bytes());
-                Status::NoMemory
-            }
+            Err(_) => end_with(Status::NoMemory, notes),
         },
     }
 }

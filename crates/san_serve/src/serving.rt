@@ -27,7 +27,7 @@ fn answer(served: Served) -> Result<Status, Refusal>
 }
 
 /// Reads all bytes and serves them.
-#[tactic(auto, using(crate::proofs::ServeLemmas::serves_read))]
+#[tactic(auto, using(crate::proofs::ServeLemmas::serves_read, crate::proofs::ServeLemmas::serves_none, crate::proofs::ServeLemmas::wrote_badly, crate::proofs::ServeLemmas::was_read))]
 fn serve_source<T: Task, S: Source, K: Sink>(
     alloc: Global,
     task: &T,

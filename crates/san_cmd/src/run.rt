@@ -1,105 +1,65 @@
-ghost use Rattle.std.specs.Prelude.{◌≡◌, ◌≤◌, ◌⊎◌, List, ℕ, Some, length, map, string_bytes, Ok};
+//! A model text is run as words order it: the task, and the top calls of the programs that do it.
+
+ghost use Rattle.std.specs.Prelude.{◌≡◌, ◌⊎◌, List, ℕ, Some, map, string_bytes};
 ghost use Rattle.san_base.specs.Flow.{Rose};
 ghost use Rattle.san_base.specs.Limits.{IsInRange};
+ghost use Rattle.san_serve.specs.Accepted.{IsRefusedText};
+ghost use Rattle.san_serve.specs.Answers.{IsRefused};
+ghost use Rattle.san_serve.specs.Bounds.{model_bound};
+ghost use Rattle.san_serve.specs.Notes.{IsLine, Noted};
+ghost use Rattle.san_serve.specs.Settled.{IsHindered};
 ghost use Rattle.san_words.specs.Commands.{IsTaken, plain_app, run_app};
 ghost use Rattle.san_words.specs.Hears.{CanRun, OrdersSay, PlainSay, texts_of};
-ghost use Rattle.san_cmd.specs.Answers.{Answers, IsRefused, Serves};
-ghost use Rattle.san_cmd.specs.Notes.{IsLine, Noted};
-ghost use Rattle.san_cmd.specs.Runs.{HeardAnswers, Ran, Runs, RunsText, run_by};
-ghost use Rattle.san_cmd.specs.Settled.{IsHindered, settled};
+ghost use Rattle.san_cmd.specs.Runs.{Ran, Runs, run_by};
+ghost use Rattle.san_cmd.specs.Settled.{settled};
+ghost use Rattle.san_cmd.specs.inner.Heard.{HeardAnswers};
 
-use crate::acceptance::{NotAccepted, accept};
-use crate::notes::{conclude, note};
-use san_base::{Ending, Sink, Source, Status, Taking, take_all};
+use san_base::{Ending, Sink, Source, Status};
 use san_net::Flat;
 use san_plain::Run;
-use san_text::Refusal;
+use san_serve::{Bound, Served, Task, accept, end_with, model_bound, serve_noted};
 use san_words::{Heard, Orders, hear, hear_plain};
 use std::alloc::Global;
 
 /// Runs a network, and reports the run.
-fn run_network<K: Sink>(alloc: Global, flat: &Flat, orders: Orders, sink: &mut K) -> Status
+fn run_network<K: Sink>(alloc: Global, flat: &Flat, orders: Orders, sink: &mut K) -> Served
     requires { IsInRange orders.limits }
     ensures answer { Ran (run_by flat.now orders) result (K.held sink.old) (K.held sink.new) }
-    ensures cause { result ≡ Status.WriteFault → Rose (K.faults sink.old) (K.faults sink.new) }
+    ensures cause { result ≡ Served.WriteFault → Rose (K.faults sink.old) (K.faults sink.new) }
 {
     let Ok(run) = Run::open(alloc, flat, orders.seed, orders.limits) else {
-        return Status::NoMemory;
+        return Served::NoMemory;
     };
     match run.write(sink) {
-        Ok(Ending::End(_)) => Status::Done,
-        Ok(Ending::Stop(_)) => Status::Stopped,
-        Err(_) => Status::WriteFault,
+        Ok(Ending::End(_)) => Served::Done,
+        Ok(Ending::Stop(_)) => Served::Stopped,
+        Err(_) => Served::WriteFault,
     }
 }
 
-/// Runs a text that was read, or refuses it.
-#[tactic(auto, using(crate::proofs::RunLemmas::ran_text))]
-fn run_text<K: Sink>(
-    alloc: Global,
-    text: &[u8],
+/// Running a model text.
+#[derive(Clone, Copy)]
+struct RunModel {
     orders: Orders,
-    sink: &mut K,
-) -> Result<Status, Refusal>
-    requires short { length text.now ≤ 67108864 }
-    requires in_range { IsInRange orders.limits }
-    ensures answer { RunsText orders result text.now (K.held sink.old) (K.held sink.new) }
-    ensures cause { result ≡ Ok Status.WriteFault → Rose (K.faults sink.old) (K.faults sink.new) }
-{
-    match accept(alloc, text) {
-        Ok(flat) => Ok(run_network(alloc, &flat, orders, sink)),
-        Err(NotAccepted::Refused(refusal)) => Err(refusal),
-        Err(NotAccepted::NoMemory) => Ok(Status::NoMemory),
-    }
+    ghost in_range: { IsInRange orders.limits },
 }
 
-/// Reads a text and runs it.
-#[tactic(auto, using(crate::proofs::RunLemmas::serves_text))]
-fn serve_run<S: Source, K: Sink>(
-    alloc: Global,
-    orders: Orders,
-    source: &mut S,
-    sink: &mut K,
-) -> Result<Status, Refusal>
-    requires { IsInRange orders.limits }
-    ensures answer { Serves (RunsText orders) result (S.left source.old) (S.left source.new)
-        (K.held sink.old) (K.held sink.new) }
-    ensures read { result ≡ Ok Status.ReadFault → Rose (S.faults source.old) (S.faults source.new) }
-    ensures write { result ≡ Ok Status.WriteFault → Rose (K.faults sink.old) (K.faults sink.new) }
-{
-    match take_all(alloc, source, 1048576) {
-        Ok(text) => run_text(alloc, text.as_slice(), orders, sink),
-        Err(Taking::Over) => Err(Refusal {
-            code: 1,
-            line: 0,
-            column: 0,
-        }),
-        Err(Taking::Failed) => Ok(Status::ReadFault),
-        Err(Taking::NoMemory) => Ok(Status::NoMemory),
-    }
-}
+impl Task for RunModel {
+    ghost use Rattle.san_cmd.specs.Runs.{run_meaning};
 
-/// Reads a text and runs it, with a line in the notes on what went wrong.
-#[tactic(auto, using(crate::proofs::RunLemmas::run_concluded))]
-fn run_noted<S: Source, K: Sink, N: Sink>(
-    alloc: Global,
-    orders: Orders,
-    source: &mut S,
-    sink: &mut K,
-    notes: &mut N,
-) -> Status
-    requires { IsInRange orders.limits }
-    ensures answer { Answers (RunsText orders) result (S.left source.old) (S.left source.new)
-        (K.held sink.old) (K.held sink.new) }
-    ensures noted { (line : List ℕ) × IsLine result (IsRefused (S.left source.old) (S.left
-        source.new)) line × Noted (N.held notes.old) (N.held notes.new) (N.faults notes.old)
-        (N.faults notes.new) line }
-    ensures taken { result ≡ Status.Words → ⊥ }
-    ensures read { result ≡ Status.ReadFault → Rose (S.faults source.old) (S.faults source.new) }
-    ensures write { result ≡ Status.WriteFault → Rose (K.faults sink.old) (K.faults sink.new) }
-{
-    let answer = serve_run(alloc, orders, source, sink);
-    conclude(alloc, answer, notes)
+    ghost meaning = { λ t. run_meaning t.orders };
+
+    fn bound(&self) -> Bound {
+        model_bound()
+    }
+
+    #[tactic(auto, using(crate::proofs::RunLemmas::ran_text))]
+    fn serve<K: Sink>(&self, alloc: Global, text: &[u8], sink: &mut K) -> Served {
+        match accept(alloc, text) {
+            Ok(accepted) => run_network(alloc, &accepted.flat, self.orders, sink),
+            Err(fault) => Served::from(fault),
+        }
+    }
 }
 
 /// Runs what was heard of words.
@@ -114,22 +74,16 @@ fn run_heard<S: Source, K: Sink, N: Sink>(
     ensures answer { HeardAnswers heard result (S.left source.old) (S.left source.new)
         (K.held sink.old) (K.held sink.new) }
     ensures unread { result ≡ Status.Words → (source.new ≡ source.old) × (sink.new ≡ sink.old) }
-    ensures noted { (line : List ℕ) × IsLine result (IsRefused (S.left source.old) (S.left
-        source.new)) line × Noted (N.held notes.old) (N.held notes.new) (N.faults notes.old)
-        (N.faults notes.new) line }
+    ensures noted { (line : List ℕ) × IsLine result (IsRefused model_bound IsRefusedText
+        (S.left source.old) (S.left source.new)) line × Noted (N.held notes.old) (N.held notes.new)
+        (N.faults notes.old) (N.faults notes.new) line }
     ensures read { result ≡ Status.ReadFault → Rose (S.faults source.old) (S.faults source.new) }
     ensures write { result ≡ Status.WriteFault → Rose (K.faults sink.old) (K.faults sink.new) }
 {
     match heard {
-        Heard::Run(orders) => run_noted(alloc, orders, source, sink, notes),
-        Heard::Refused => {
-            note(notes, b"words\n");
-            Status::Words
-        }
-        Heard::NoMemory => {
-            note(notes, b"memory\n");
-            Status::NoMemory
-        }
+        Heard::Run(orders) => serve_noted(alloc, &RunModel { orders }, source, sink, notes),
+        Heard::Refused => end_with(Status::Words, notes),
+        Heard::NoMemory => end_with(Status::NoMemory, notes),
     }
 }
 
@@ -156,9 +110,9 @@ pub fn plain_words<S: Source, K: Sink, N: Sink>(
         × (result ≡ settled orders bytes)) }
     ensures read { result ≡ Status.ReadFault → Rose (S.faults source.old) (S.faults source.new) }
     ensures write { result ≡ Status.WriteFault → Rose (K.faults sink.old) (K.faults sink.new) }
-    ensures noted { (line : List ℕ) × IsLine result (IsRefused (S.left source.old) (S.left
-        source.new)) line × Noted (N.held notes.old) (N.held notes.new) (N.faults notes.old)
-        (N.faults notes.new) line }
+    ensures noted { (line : List ℕ) × IsLine result (IsRefused model_bound IsRefusedText
+        (S.left source.old) (S.left source.new)) line × Noted (N.held notes.old) (N.held notes.new)
+        (N.faults notes.old) (N.faults notes.new) line }
 {
     let heard = hear_plain(alloc, words);
     run_heard(alloc, heard, source, sink, notes)
@@ -187,9 +141,9 @@ pub fn run_words<S: Source, K: Sink, N: Sink>(
         × (result ≡ settled orders bytes)) }
     ensures read { result ≡ Status.ReadFault → Rose (S.faults source.old) (S.faults source.new) }
     ensures write { result ≡ Status.WriteFault → Rose (K.faults sink.old) (K.faults sink.new) }
-    ensures noted { (line : List ℕ) × IsLine result (IsRefused (S.left source.old) (S.left
-        source.new)) line × Noted (N.held notes.old) (N.held notes.new) (N.faults notes.old)
-        (N.faults notes.new) line }
+    ensures noted { (line : List ℕ) × IsLine result (IsRefused model_bound IsRefusedText
+        (S.left source.old) (S.left source.new)) line × Noted (N.held notes.old) (N.held notes.new)
+        (N.faults notes.old) (N.faults notes.new) line }
 {
     let heard = hear(alloc, words);
     run_heard(alloc, heard, source, sink, notes)
