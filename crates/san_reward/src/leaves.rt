@@ -1,3 +1,5 @@
+//! The rates of the leaves' terms, and the sums that they move.
+
 ghost use Rattle.std.specs.Prelude.{◌≡◌, ◌+ℤ◌, ◌-ℤ◌, ◌<◌, ◌≤◌, ◌^◌, [], ℕ, None, length, map, slice_index_or, slice_set, unsigned_abs};
 ghost use Rattle.san_law.specs.Reward.{plus, zero_sum};
 ghost use Rattle.san_reward.specs.Present.{IsAtMost, amount, fault, present_at, replaced};
