@@ -1,5 +1,5 @@
 -- The lines that end a report.
-use Rattle.std.proofs.Common.{ℕ, zero, suc, ◌+◌, ◌≤◌, ◌<◌, ◌≡◌, ◌∙◌, ap, sym, refl, arith, subst, Bool, true, false, MatchBool, List, [], ◌∷◌, ◌++◌, length, drop, get_or, append_assoc, append-nil, Option}
+use Rattle.std.proofs.Common.{ℕ, zero, suc, ◌+◌, ◌≤◌, ◌<◌, ◌≡◌, ◌∙◌, ap, sym, arith, subst, Bool, true, false, MatchBool, List, [], ◌∷◌, ◌++◌, length, drop, get_or, append_assoc, append-nil, Option}
 use Rattle.std.proofs.lemmas.List.{drop_all}
 use Rattle.san_base.specs.Flow.{Appends, AppendsPrefix}
 use Rattle.san_net.specs.declared.part.Reward.{Reward}

@@ -1,5 +1,6 @@
 -- Sums as the time goes on, by number.
 use Rattle.std.proofs.Common.{ℕ, zero, suc, ◌+◌, ◌-◌, ◌*◌, ◌^◌, ◌<◌, ◌≤◌, ◌≡◌, ◌∙◌, ap, sym, refl, subst, List, [], ◌∷◌, arith, nat_lt, nat_eq, ◌≢◌, ◌⊎◌, inl, inr, Bool, true, false, cond, slice_index_or, slice_set, length, map}
+use Rattle.san_base.specs.declared.limits.TheConstants.{MAX_HORIZON}
 use Rattle.std.specs.Prelude.{pos, unsigned_abs, All}
 use Rattle.std.proofs.lemmas.Bool.{ltb-true, ltb-false}
 use Rattle.std.proofs.lemmas.Bool.Decides.{eqb_tells, nat_tests}
@@ -140,10 +141,10 @@ span_at [] r d h = absurd (omega (arith, h))
 span_at (s ∷ ss) zero d h = refl
 span_at (s ∷ ss) (suc r) d h = span_at ss r d (omega (arith, h))
 
-pub span_ends : (spans : List interval.Span) (r : ℕ) (d : interval.Span) → r < length spans → All (λ s. s.to ≤ 1000000000001) (map span_in spans) → (span_in (slice_index_or spans r d)).to ≤ 1000000000001
+pub span_ends : (spans : List interval.Span) (r : ℕ) (d : interval.Span) → r < length spans → All (λ s. s.to ≤ MAX_HORIZON + 1) (map span_in spans) → (span_in (slice_index_or spans r d)).to ≤ MAX_HORIZON + 1
 span_ends spans r d h all = let many = length-map spans span_in in rw (span_at spans r d h) (all r no_span (omega (arith, h, many)))
 
-pub span_low : (spans : List interval.Span) (r : ℕ) (s : interval.Span) → s ≡ slice_index_or spans r s → r < length spans → All (λ s. s.to ≤ 1000000000001) (map span_in spans) → (span_in s).to < 2 ^ 64
+pub span_low : (spans : List interval.Span) (r : ℕ) (s : interval.Span) → s ≡ slice_index_or spans r s → r < length spans → All (λ s. s.to ≤ MAX_HORIZON + 1) (map span_in spans) → (span_in s).to < 2 ^ 64
 span_low spans r s e h all = let most = span_ends spans r s h all in let same = ap (λ (q : interval.Span). (span_in q).to) e in omega (arith, most, same)
 
 -- a sum that is read from a list
@@ -213,7 +214,7 @@ pub span_is_low : (t u : Running) (present : List Present) (r : ℕ) (s : interv
 span_is_low t u present r s spans e c h f a =
     let many = ap (λ (x : Running). length x.spans) e in
     let size = ap length f ∙ length-map spans span_in in
-    span_low spans r s a (omega (arith, h, many, size)) (subst (λ ss. All (λ x. x.to ≤ 1000000000001) ss) f c.spanned)
+    span_low spans r s a (omega (arith, h, many, size)) (subst (λ ss. All (λ x. x.to ≤ MAX_HORIZON + 1) ss) f c.spanned)
 
 pub present_is_low : (t u : Running) (present : List Present) (r : ℕ) (p : Present) → u ≡ t → IsCounted t present → r < length u.spans → p ≡ slice_index_or present r p → unsigned_abs p.sum ≤ 2 ^ 79
 present_is_low t u present r p e c h b = let many = ap (λ (x : Running). length x.spans) e in present_low present r p b (omega (arith, h, many, c.sized)) (present_small t present r c)

@@ -1,5 +1,6 @@
 //! The present rates of a reward, and how its sum accrues.
 
+ghost use Rattle.san_base.specs.declared.limits.TheConstants.{MAX_HORIZON};
 ghost use Rattle.std.specs.Prelude.{◌≡◌, ◌<◌, ◌≤◌, ◌^◌, ℕ, length, map, unsigned_abs};
 ghost use Rattle.san_law.specs.Reward.{is_within, plus, zero_sum};
 ghost use Rattle.san_law.specs.Tally.{sums_from};
@@ -132,7 +133,7 @@ pub(crate) fn count_on(
     requires present { length present.now.items ≡ length sums.old.items }
     requires spans { length spans.now.items ≡ length sums.old.items }
     requires ticks { to ≤ from + 2 ^ 40 }
-    requires spanned { All (λ s. s.to ≤ 1000000000001) (map span_in spans.now.items) }
+    requires spanned { All (λ s. s.to ≤ MAX_HORIZON + 1) (map span_in spans.now.items) }
     requires small { (r : ℕ) → IsAtMost (2 ^ 120) (slice_index_or sums.old.items r zero_sum) }
     requires rates { (r : ℕ) → unsigned_abs (present_at present.now.items r).sum ≤ 2 ^ 79 }
     ensures { sums.new.items

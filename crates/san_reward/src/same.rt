@@ -1,6 +1,7 @@
 //! Equal intervals, and equal lists of lists.
 
-ghost use Rattle.std.specs.Prelude.{◌≡◌, ◌↔◌, ◌<◌, ◌≤◌, ◌^◌, All, IsTrue, map};
+ghost use Rattle.san_base.specs.declared.limits.TheConstants.{MAX_HORIZON};
+ghost use Rattle.std.specs.Prelude.{◌≡◌, ◌+◌, ◌↔◌, ◌<◌, ◌≤◌, ◌^◌, All, IsTrue, map};
 ghost use Rattle.san_net.specs.Network.{span_in};
 
 use crate::present::{end, first};
@@ -28,8 +29,8 @@ fn same_span(a: Span, b: Span) -> bool
 
 /// The same of lists of intervals.
 pub(crate) fn same_spans(a: &[Span], b: &[Span]) -> bool
-    requires a { All (λ s. s.to ≤ 1000000000001) (map span_in a.now) }
-    requires b { All (λ s. s.to ≤ 1000000000001) (map span_in b.now) }
+    requires a { All (λ s. s.to ≤ MAX_HORIZON + 1) (map span_in a.now) }
+    requires b { All (λ s. s.to ≤ MAX_HORIZON + 1) (map span_in b.now) }
     ensures { IsTrue result ↔ (map span_in a.now ≡ map span_in b.now) }
 {
     if a.len() != b.len() {

@@ -1,5 +1,6 @@
 //! The tally of a run's rewards.
 
+ghost use Rattle.san_base.specs.declared.limits.TheConstants.{MAX_HORIZON, MAX_IMPULSES};
 ghost use Rattle.std.specs.Prelude.{◌≡◌, ◌↔◌, ◌<◌, ◌≤◌, ◌^◌, [], ℕ, IfOk, IsTrue, length, map, slice_index_or};
 ghost use Rattle.san_law.specs.Tally.{tally_worth};
 ghost use Rattle.san_reward.specs.Running.{advanced, net_in, opened, with_impulse, with_rate};
@@ -49,7 +50,7 @@ impl Model for Tally {
 impl Tally {
     /// A tally at time 0, where each rate is 0 until it is set.
     pub fn open(alloc: Global, flat: &Flat, horizon: Tick) -> Result<Tally, NoMemory>
-        requires { horizon.0 ≤ 1000000000000 }
+        requires { horizon.0 ≤ MAX_HORIZON }
         ensures { IfOk result (λ t. t ≡ opened flat.now horizon.0) }
     {
         flat.is_network();
@@ -156,7 +157,7 @@ impl Tally {
     /// Counts an impulse at the present time.
     pub fn impulse(&mut self, reward: u32, rated: Rated)
         requires reward { reward < length self.old.spans }
-        requires few { self.old.tally.impulses < 2 ^ 40 }
+        requires few { self.old.tally.impulses < MAX_IMPULSES }
         ensures { self.new ≡ with_impulse self.old reward (term_value rated) }
     {
         self.impulses += 1;
