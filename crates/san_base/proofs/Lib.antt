@@ -1,1 +1,4 @@
+pub mod Bools
 pub mod FlowLemmas
+pub mod Lists
+pub mod SameLemmas

@@ -4,8 +4,6 @@ use Rattle.san_base.specs.declared.sink.Put.{Put}
 use Rattle.san_base.specs.declared.source.Read.{Read}
 use Rattle.san_base.specs.declared.source.Read.TheVariants as read
 use Rattle.san_base.specs.declared.sink.Put.TheVariants as put
-use Rattle.san_base.specs.declared.source.Turn.{Turn}
-use Rattle.san_base.specs.declared.source.Turn.TheVariants as turn
 
 -- a count of faults rose, or stands at its type's greatest number, where it stays
 abbrev pub Rose : ℕ → ℕ → Type 0
@@ -16,7 +14,7 @@ abbrev pub Appends : Option (List ℕ) → Option (List ℕ) → List ℕ → Ty
 Appends None new bytes = new ≡ None
 Appends (Some held) new bytes = new ≡ Some (held ++ bytes)
 
--- the same of a front part of these bytes
+-- the same of a prefix of these bytes
 abbrev pub AppendsPrefix : Option (List ℕ) → Option (List ℕ) → List ℕ → Type 0
 AppendsPrefix old new bytes = (part : List ℕ) × (rest : List ℕ) × (part ++ rest ≡ bytes) × Appends old new part
 
@@ -29,10 +27,6 @@ Puts put.Failed old new piece before now = Rose before now × (new ≡ old)
 abbrev pub Takes : Option (List ℕ) → Option (List ℕ) → List ℕ → Type 0
 Takes None new bytes = new ≡ None
 Takes (Some left) new bytes = (rest : List ℕ) × (left ≡ bytes ++ rest) × (new ≡ Some rest)
-
--- with the bytes taken before from anything, these are taken from it
-abbrev pub TakesTogether : Option (List ℕ) → Option (List ℕ) → List ℕ → List ℕ → Type 0
-TakesTogether old new before now = (first : Option (List ℕ)) → Takes first old before → Takes first new now
 
 -- where what is left is told, it had so many bytes, which are gone from its front
 abbrev pub TakesFirst : Option (List ℕ) → Option (List ℕ) → ℕ → Type 0
@@ -51,13 +45,6 @@ IsUsedUp (Some left) = left ≡ []
 abbrev pub Gives : Option (List ℕ) → Option (List ℕ) → List ℕ → ℕ → Type 0
 Gives None new buf count = new ≡ None
 Gives (Some left) new buf count = (count ≤ length left) × (take count buf ≡ take count left) × (new ≡ Some (drop count left))
-
--- what one more read does, by its answer, to what is left and to the bytes taken before
-abbrev pub TakesMore : Turn → Option (List ℕ) → Option (List ℕ) → List ℕ → List ℕ → ℕ → Type 0
-TakesMore turn.More old new before now most = (0 < length now - length before) × (length now ≤ length before + most) × TakesTogether old new before now
-TakesMore turn.End old new before now most = IsUsedUp old × (new ≡ old) × (now ≡ before)
-TakesMore turn.Failed old new before now most = (new ≡ old) × (now ≡ before)
-TakesMore turn.NoMemory old new before now most = TakesUpTo old new most
 
 -- what a read does to what is left and to the buffer
 abbrev pub Reads : Read → Option (List ℕ) → Option (List ℕ) → List ℕ → ℕ → ℕ → Type 0

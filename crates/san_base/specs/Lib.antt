@@ -4,3 +4,4 @@ pub mod Limits
 pub mod Memory
 pub mod Rated
 pub mod Status
+pub mod inner

@@ -1,3 +1,5 @@
+//! What a run is told in: its events, why an evaluation traps, and how a run ends.
+
 use crate::numbers::{ActId, Tick};
 
 /// Why an evaluation has no value.

@@ -8,6 +8,8 @@ mod memory;
 mod name;
 mod numbers;
 mod op;
+mod piece;
+mod same;
 mod shared;
 mod sink;
 mod source;
@@ -17,11 +19,17 @@ mod term;
 
 pub use bounds::rated;
 pub use ending::{Ending, Event, Stop, Trap};
-pub use limits::Limits;
+pub use limits::{
+    Limits, MAX_ACTS, MAX_BURST, MAX_CELLS, MAX_DELAY, MAX_EVENTS, MAX_HORIZON, MAX_IMPULSES,
+    MAX_LEAVES, MAX_MODEL_BYTES, MAX_NAME_BYTES, MAX_PLACES, MAX_RATED, MAX_ROLLBACKS,
+    MAX_TEXT_BYTES, MAX_TOKENS, MAX_WEIGHT, MAX_WINDOW,
+};
 pub use memory::{MemSink, MemSource};
 pub use name::Name;
 pub use numbers::{ActId, LeafId, NoMemory, PlaceId, Tick};
 pub use op::Op;
+pub use piece::{Kind, Linked, Stamp};
+pub use same::{Same, all_same};
 pub use shared::Shared;
 pub use sink::{Put, Sink, put_all};
 pub use source::{Read, Source, Taking, take_all};

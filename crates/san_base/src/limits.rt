@@ -1,4 +1,57 @@
+//! The bounds that a run is given, and the limits of texts, models and runs.
+
 use crate::numbers::Tick;
+
+/// The bytes of the longest text that is parsed.
+pub const MAX_TEXT_BYTES: usize = 67_108_864;
+
+/// The bytes of the longest model that a program reads.
+pub const MAX_MODEL_BYTES: u32 = 1_048_576;
+
+/// The bytes of the longest name.
+pub const MAX_NAME_BYTES: usize = 64;
+
+/// The leaves of the largest network.
+pub const MAX_LEAVES: u32 = 4_096;
+
+/// The places of the largest network.
+pub const MAX_PLACES: u32 = 65_536;
+
+/// The activities of the largest network.
+pub const MAX_ACTS: u32 = 65_536;
+
+/// The cells of the largest atomic model.
+pub const MAX_CELLS: u32 = 256;
+
+/// The tokens of the fullest place.
+pub const MAX_TOKENS: u32 = 2_147_483_647;
+
+/// The longest delay, in ticks.
+pub const MAX_DELAY: u64 = 4_294_967_296;
+
+/// The greatest sum of the weights of an activity's cases, or of a table.
+pub const MAX_WEIGHT: u64 = 4_294_967_296;
+
+/// The last tick of the longest run.
+pub const MAX_HORIZON: u64 = 1_000_000_000_000;
+
+/// The greatest burst limit, in completions.
+pub const MAX_BURST: u32 = 10_000;
+
+/// The greatest event limit, in completions.
+pub const MAX_EVENTS: u64 = 10_000_000;
+
+/// The widest window, in pieces.
+pub const MAX_WINDOW: u32 = 64;
+
+/// The greatest limit of rollbacks.
+pub const MAX_ROLLBACKS: u64 = 1_000_000;
+
+/// The greatest value, and with a minus the least, at which a reward's term is no fault.
+pub const MAX_RATED: u64 = 1_000_000_000;
+
+/// More impulses than any run is told.
+pub const MAX_IMPULSES: u64 = 1_099_511_627_776;
 
 /// The bounds that a run is given; what ranges they have, the definition `IsInRange` tells.
 #[derive(Clone, Copy, Debug, PartialEq, Eq)]

@@ -1,5 +1,7 @@
+//! A source and a sink in memory that fail at named calls, for rows and tests.
+
 ghost use Rattle.std.specs.Prelude.{◌≡◌, ℕ, ◌+◌, ◌-◌, ◌<◌, ◌≤◌, ◌++◌, ◌↔◌, ◌⊎◌, List, [], Some, drop, length, take, min, Contains, IfOk};
-ghost use Rattle.san_base.specs.Memory.{Feed, Store, counted};
+ghost use Rattle.san_base.specs.Memory.{Feed, PutsJust, ReadsJust, Store, counted};
 ghost use Rattle.san_base.specs.Flow.{Reads, Puts};
 
 use crate::numbers::NoMemory;
@@ -72,6 +74,7 @@ impl Source for MemSource {
         ensures read { Reads result (Some self.old.left) (Some self.new.left) buf.new self.old.faults
             self.new.faults }
         ensures fails { (result ≡ Read.Failed) ↔ Contains self.old.fails self.old.calls }
+        ensures greatest { ReadsJust result (min (min (length self.old.left) (length buf.old)) self.old.greatest) }
         ensures calls { self.new.calls ≡ counted self.old.calls }
         ensures same { (self.new.greatest ≡ self.old.greatest) × (self.new.fails ≡ self.old.fails) }
     {
@@ -152,6 +155,7 @@ impl MemSink {
         })
     }
 
+    /// What it holds.
     pub fn bytes(&self) -> &[u8]
         ensures { result.now ≡ self.now.held }
     {
@@ -177,6 +181,7 @@ impl Sink for MemSink {
         ensures put { Puts result (Some self.old.held) (Some self.new.held) piece.now self.old.faults
             self.new.faults }
         ensures fails { (result ≡ Put.Failed) ↔ ((self.old.room ≡ 0) ⊎ Contains self.old.fails self.old.calls) }
+        ensures greatest { PutsJust result (min (min (length piece.now) self.old.room) self.old.greatest) }
         ensures calls { self.new.calls ≡ counted self.old.calls }
         ensures room { self.new.room + length self.new.held ≡ self.old.room + length self.old.held }
         ensures same { (self.new.greatest ≡ self.old.greatest) × (self.new.fails ≡ self.old.fails) }

@@ -1,3 +1,5 @@
+//! The numbers of places, activities, leaves and ticks, and want of memory.
+
 use std::alloc::{AllocError, AllocFailed};
 
 /// The number of a place of the network.

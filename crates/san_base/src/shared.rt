@@ -1,3 +1,5 @@
+//! Values with several owners.
+
 ghost use Rattle.std.specs.Prelude.{◌≡◌, IfOk};
 
 use crate::numbers::NoMemory;
@@ -20,6 +22,7 @@ impl<T> Model for Shared<T> {
 }
 
 impl<T> Shared<T> {
+    /// The value.
     pub fn get(&self) -> &T
         ensures { result.now ≡ self.now }
     {
@@ -38,6 +41,7 @@ impl<T> Shared<T> {
 }
 
 impl<T: Drop> Shared<T> {
+    /// A value with one owner.
     pub fn new(alloc: Global, value: T) -> Result<Shared<T>, NoMemory>
         ensures { IfOk result (λ s. s ≡ value) }
     {

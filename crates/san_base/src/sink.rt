@@ -1,3 +1,5 @@
+//! Where bytes go, one piece after another.
+
 ghost use Rattle.std.specs.Prelude.{◌≡◌, ◌<◌, ◌≤◌, ℕ, List, Option, length, MatchBool};
 ghost use Rattle.san_base.specs.Flow.{Puts, Rose, Appends, AppendsPrefix};
 
@@ -15,6 +17,7 @@ pub trait Sink {
 
     ghost faults: { Self → ℕ };
 
+    /// Appends some bytes of the front of a piece, at least one, or fails and appends nothing.
     fn put(&mut self, piece: &[u8]) -> Put
         requires { 0 < length piece.now }
         ensures later { faults self.old ≤ faults self.new }

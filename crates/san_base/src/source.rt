@@ -1,7 +1,13 @@
+//! Where bytes come from, and reading them to the end.
+
 ghost use Rattle.std.specs.Prelude.{◌≡◌, ◌<◌, ◌≤◌, ◌+◌, ℕ, List, Option, length, IfOk, OnOk, IsErrOf, vec_len};
-ghost use Rattle.san_base.specs.Flow.{Reads, Rose, Takes, TakesFirst, IsUsedUp, TakesUpTo, TakesMore};
+ghost use Rattle.san_base.specs.Flow.{Reads, Rose, Takes, TakesFirst, IsUsedUp, TakesUpTo};
+ghost use Rattle.san_base.specs.inner.Turns.{TakesMore};
 
 use std::alloc::Global;
+
+/// The bytes that one read asks for at most.
+const READ_BYTES: usize = 4_096;
 
 /// What a read gave: so many bytes, the end, or a fault.
 #[derive(Clone, Copy, Debug, PartialEq, Eq)]
@@ -18,6 +24,7 @@ pub trait Source {
 
     ghost faults: { Self → ℕ };
 
+    /// Gives the next bytes, at least one and at most as many as the buffer has.
     fn read(&mut self, buf: &mut [u8]) -> Read
         requires { 0 < length buf.old }
         ensures later { faults self.old ≤ faults self.new }
@@ -78,7 +85,7 @@ pub fn take_all<S: Source>(alloc: Global, source: &mut S, most: u32) -> Result<V
     ensures later { S.faults source.old ≤ S.faults source.new }
 {
     let mut taken: Vec<u8> = Vec::new(alloc);
-    let mut buffer = [0; 4096];
+    let mut buffer = [0; READ_BYTES];
     'turns: while taken.len() <= most as usize {
         let room = (most as usize + 1 - taken.len()).min(buffer.len());
         match take_more(source, &mut buffer[..room], &mut taken) {

@@ -1,3 +1,5 @@
+//! How a program ends.
+
 ghost use Rattle.std.specs.Prelude.{◌≡◌};
 ghost use Rattle.san_base.specs.Status.{code_of};
 

@@ -1,3 +1,5 @@
+//! A source and a sink in memory that take no memory while they are used.
+
 ghost use Rattle.std.specs.Prelude.{◌≡◌, ℕ, ◌+◌, ◌-◌, ◌<◌, ◌≤◌, ◌++◌, List, [], Some, drop, length, take, vec_len, vec_capacity, IfOk, nat_le, if◌then◌else◌};
 ghost use Rattle.san_base.specs.Memory.{Page, counted};
 ghost use Rattle.san_base.specs.Flow.{Reads, Puts};
@@ -26,6 +28,7 @@ impl Model for SureSource {
 }
 
 impl SureSource {
+    /// Gives these bytes.
     pub fn new(bytes: Vec<u8>) -> SureSource
         ensures { result ≡ bytes.items }
     {
@@ -83,6 +86,7 @@ impl SureSink {
         })
     }
 
+    /// What it holds.
     pub fn bytes(&self) -> &[u8]
         ensures { result.now ≡ self.now.held }
     {
@@ -96,6 +100,7 @@ impl SureSink {
         self.room
     }
 
+    /// Appends a piece for which there is room.
     pub fn append(&mut self, piece: &[u8])
         requires { length piece.now ≤ self.old.room }
         ensures { self.new ≡ record self.old

@@ -1,4 +1,6 @@
-/// The value of a reward's term as it is told.
+//! The value of a reward's term.
+
+/// The value of a reward's term.
 #[derive(Clone, Copy, Debug, PartialEq, Eq)]
 pub enum Rated {
     Value(i64),

@@ -9,7 +9,7 @@ use Rattle.san_base.specs.declared.numbers.Tick.{Tick}
 use Rattle.san_base.specs.declared.status.Status.{Status}
 use Rattle.san_base.specs.declared.status.Status.TheVariants as status
 use Rattle.san_net.specs.Network.{Network}
-use Rattle.san_run.specs.Reports.{Opened, ending_of, report_of}
+use Rattle.san_plain.specs.Reports.{Opened, ending_of, report_of}
 use Rattle.san_words.specs.Commands.{IsTaken}
 use Rattle.san_words.specs.Hears.{Texts, texts_of}
 use Rattle.san_words.specs.declared.orders.Heard.{Heard}

@@ -5,7 +5,7 @@ use Rattle.san_base.specs.declared.ending.Ending.TheVariants as ending
 use Rattle.san_base.specs.declared.status.Status.{Status}
 use Rattle.san_base.specs.declared.status.Status.TheVariants as status
 use Rattle.san_net.specs.Network.{Network}
-use Rattle.san_run.specs.Reports.{ending_of}
+use Rattle.san_plain.specs.Reports.{ending_of}
 use Rattle.san_text.specs.declared.text.Refusal.{Refusal}
 use Rattle.san_words.specs.declared.orders.Orders.{Orders}
 use Rattle.san_cmd.specs.Accepted.{accepted}

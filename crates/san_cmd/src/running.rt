@@ -12,7 +12,7 @@ use crate::acceptance::{NotAccepted, accept};
 use crate::notes::{conclude, note};
 use san_base::{Ending, Sink, Source, Status, Taking, take_all};
 use san_net::Flat;
-use san_run::Run;
+use san_plain::Run;
 use san_text::Refusal;
 use san_words::{Heard, Orders, hear, hear_plain};
 use std::alloc::Global;

@@ -15,7 +15,7 @@ use Rattle.san_base.specs.Rated.{rated_by}
 use Rattle.san_net.specs.declared.atomic.RateTerm.{RateTerm}
 use Rattle.san_net.specs.declared.part.Slot.{Slot}
 use Rattle.san_net.specs.declared.part.Slot.TheVariants.{Private}
-use Rattle.san_base.specs.Rated.{told}
+use Rattle.san_base.specs.Rated.{term_value}
 use Rattle.san_base.specs.declared.term.Rated.{Rated}
 
 gathered : (places marking : List ℕ) (k : ℕ) → k < length places → slice_get (gather places marking) k ≡ Some (slice_index marking (slice_index places k))
@@ -43,5 +43,5 @@ module _ (slots : List Slot) (m values : List ℕ) (is : gather (map place_of sl
   read_there = subst (λ o. Answers o None (plain values) (plain values) k (slice_index m at)) (sym (ap (λ v. slice_get v k) (sym is) ∙ gathered (map place_of slots) m k inside)) (ap (slice_index m) at_is, refl)
 
 -- a term's value over all of a leaf's cells
-pub value_there : (t : RateTerm) (values left : List ℕ) (r : Result ℤ Trap) (w : Rated) → Evaluates (plain values) (plain left) (value_of t.expr) r → told w ≡ rated_by r → told w ≡ rate_in values t
+pub value_there : (t : RateTerm) (values left : List ℕ) (r : Result ℤ Trap) (w : Rated) → Evaluates (plain values) (plain left) (value_of t.expr) r → term_value w ≡ rated_by r → term_value w ≡ rate_in values t
 value_there t values left r w e is = is ∙ ap rated_by (sym (plain_evaluates values left t.expr r e).0)

@@ -5,7 +5,7 @@ ghost use Rattle.san_law.specs.Lawful.{AllBelow};
 ghost use Rattle.san_law.specs.State.{gather};
 ghost use Rattle.san_net.specs.Laid.{place_of};
 ghost use Rattle.san_net.specs.Leaf.{rate_in};
-ghost use Rattle.san_base.specs.Rated.{told};
+ghost use Rattle.san_base.specs.Rated.{term_value};
 
 use san_base::{Rated, rated};
 use san_expr::{Marked, eval};
@@ -60,11 +60,11 @@ impl<'a> Marked for LeafCells<'a> {
     }
 }
 
-/// A rate term's value over a leaf's cells, as it is told.
+/// A rate term's value over a leaf's cells.
 pub(crate) fn rate_in(term: &RateTerm, slots: &[Slot], marking: &[u32]) -> Rated
     requires places { IsTrue (places_below term.now.expr (length slots.now)) }
     requires over { AllBelow (map place_of slots.now) (length marking.now) }
-    ensures { told result ≡ rate_in (gather (map place_of slots.now) marking.now) term.now }
+    ensures { term_value result ≡ rate_in (gather (map place_of slots.now) marking.now) term.now }
 {
     let mut cells = LeafCells::new(slots, marking);
     rated(eval(&term.expr, &mut cells))

@@ -5,7 +5,7 @@ ghost use Rattle.san_law.specs.Network.{Limits};
 ghost use Rattle.san_law.specs.Reward.{rates_from};
 ghost use Rattle.san_net.specs.Laid.{places_of};
 ghost use Rattle.san_net.specs.Network.{net_of};
-ghost use Rattle.san_base.specs.Rated.{told};
+ghost use Rattle.san_base.specs.Rated.{term_value};
 ghost use Rattle.san_reward.specs.Running.{rates_in, rates_of, terms_in, with_all_rates, with_leaf_rates};
 
 use crate::cells::rate_in;
@@ -18,7 +18,7 @@ impl Tally {
     pub fn rate_leaf(&mut self, leaf: LeafId, rates: &[Rated])
         requires leaf { leaf.0 < length self.old.terms }
         requires terms { length rates.now ≡ length (slice_index_or self.old.terms leaf.0 []) }
-        ensures { self.new ≡ with_leaf_rates self.old leaf.0 (map told rates.now) }
+        ensures { self.new ≡ with_leaf_rates self.old leaf.0 (map term_value rates.now) }
     {
         self.has_a_rate_for_each_term();
         'terms: for (at, rated) in rates.iter().enumerate() {

@@ -1,10 +1,10 @@
 ghost use Rattle.std.specs.Prelude.{◌≡◌, ◌↔◌, ◌<◌, ◌≤◌, ◌^◌, [], ℕ, IfOk, IsTrue, length, map, slice_index_or};
 ghost use Rattle.san_law.specs.Tally.{tally_worth};
 ghost use Rattle.san_reward.specs.Running.{advanced, net_in, opened, with_impulse, with_rate};
-ghost use Rattle.san_base.specs.Rated.{told};
+ghost use Rattle.san_base.specs.Rated.{term_value};
 ghost use Rattle.san_reward.specs.Worth.{worth_told};
 
-use crate::bounds::told;
+use crate::bounds::term_value;
 use crate::copying::{copied, copied_lists};
 use crate::equal::{same_rate_lists, same_spans, same_sums, same_terms};
 use crate::leaves::{add, put_rate, replace, reward_of};
@@ -134,7 +134,7 @@ impl Tally {
     pub fn rate(&mut self, leaf: LeafId, term: u32, rated: Rated)
         requires leaf { leaf.0 < length self.old.terms }
         requires term { term < length (slice_index_or self.old.terms leaf.0 []) }
-        ensures { self.new ≡ with_rate self.old leaf.0 term (told rated) }
+        ensures { self.new ≡ with_rate self.old leaf.0 term (term_value rated) }
     {
         self.set(leaf, term as usize, rated);
     }
@@ -143,9 +143,9 @@ impl Tally {
     pub(crate) fn set(&mut self, leaf: LeafId, term: usize, rated: Rated)
         requires leaf { leaf.0 < length self.old.terms }
         requires term { term < length (slice_index_or self.old.terms leaf.0 []) }
-        ensures { self.new ≡ with_rate self.old leaf.0 term (told rated) }
+        ensures { self.new ≡ with_rate self.old leaf.0 term (term_value rated) }
     {
-        let rate = told(rated);
+        let rate = term_value(rated);
         let reward = reward_of(&self.terms, leaf.0, term);
         let old = put_rate(&mut self.rates, leaf.0, term, rate);
         replace(&mut self.present, reward, old, rate);
@@ -155,10 +155,10 @@ impl Tally {
     pub fn impulse(&mut self, reward: u32, rated: Rated)
         requires reward { reward < length self.old.spans }
         requires few { self.old.tally.impulses < 2 ^ 40 }
-        ensures { self.new ≡ with_impulse self.old reward (told rated) }
+        ensures { self.new ≡ with_impulse self.old reward (term_value rated) }
     {
         self.impulses += 1;
-        let added = counted(self.spans[reward as usize], self.time.0, told(rated));
+        let added = counted(self.spans[reward as usize], self.time.0, term_value(rated));
         add(&mut self.sums, reward, added);
     }
 

@@ -1,0 +1,139 @@
+-- A step of a run with the ending: the closing lines alone are left of the report.
+use Rattle.std.proofs.Common.{ℕ, ◌<◌, ◌≡◌, ◌∙◌, ap, sym, refl, subst, arith, List, ◌++◌, length, Option, Some, Result, Ok, Err}
+use Rattle.std.proofs.lemmas.List.{length-map}
+use Rattle.san_base.specs.declared.ending.Ending.{Ending}
+use Rattle.san_base.specs.declared.ending.Ending.TheVariants as ending
+use Rattle.san_base.specs.declared.ending.Event.{Event}
+use Rattle.san_base.specs.declared.ending.Stop.{Stop}
+use Rattle.san_base.specs.declared.numbers.Tick.{Tick}
+use Rattle.san_draw.specs.Key.{draw_of}
+use Rattle.san_law.specs.Lawful.{IsLawful}
+use Rattle.san_law.specs.Net.{Net, Span}
+use Rattle.san_law.specs.Reward as reward
+use Rattle.san_law.specs.State.{State, opening_state}
+use Rattle.san_law.specs.Step as law
+use Rattle.san_law.specs.Tally.{tally_worth}
+use Rattle.san_net.specs.Network.{Network, span_in}
+use Rattle.san_net.proofs.LaidLemmas.{lawful}
+use Rattle.san_report.specs.Lines.{ending_line}
+use Rattle.san_report.specs.Puts.{EndsIn}
+use Rattle.san_reward.specs.Running.{net_in}
+use Rattle.san_reward.specs.declared.worth.Worth.{Worth}
+use Rattle.san_reward.proofs.RatesSet.{rates_law}
+use Rattle.san_reward.proofs.Telling.{worth_same}
+use Rattle.san_plain.specs.Closings.{closing, worths_by}
+use Rattle.san_plain.specs.Courses.{IsOver, Stands, left_after}
+use Rattle.san_plain.specs.Pages.{Sent}
+use Rattle.san_plain.specs.Reports.{Opened, net_by, report_of, worth_at, worth_said}
+use Rattle.san_plain.specs.declared.run.Course.{Course}
+use Rattle.san_plain.proofs.NumberLemmas.{act_below}
+use Rattle.san_plain.proofs.ReportLemmas.{lines_last, outcome_is, rewards_like}
+use Rattle.san_plain.proofs.StepLemmas.{IsEnd, ends, fits_at}
+use Rattle.san_plain.proofs.WorthLemmas.{counted_worth}
+use Rattle.san_law.specs.Trajectory.{trajectory}
+use Rattle.san_seq.specs.FlatRun.{Run, step_of}
+use Rattle.san_seq.specs.Overs.{limits_in}
+use Rattle.san_seq.specs.Telling.{ending_in, stepped_of, told_of}
+use Rattle.san_seq.specs.declared.steps.Stepped.TheVariants as stepped
+
+-- what a step answers tells what it told
+stop_told : (x : Result Event Ending) (why : Stop) → stepped_of x ≡ stepped.Stopped why → x ≡ Err (ending.Stop why)
+stop_told (Ok f) why is = absurd cc
+stop_told (Err (ending.End h)) why is = absurd cc
+stop_told (Err (ending.Stop w)) why is = ap (λ (y : Stop). (let r : Result Event Ending = Err (ending.Stop y) in r)) (same w why is)
+  where
+    same : (a b : Stop) → stepped.Stopped a ≡ stepped.Stopped b → a ≡ b
+    same a b q = cc
+
+end_told : (x : Result Event Ending) → stepped_of x ≡ stepped.End → (h : Tick) × (x ≡ Err (ending.End h))
+end_told (Ok f) is = absurd cc
+end_told (Err (ending.End h)) is = (h, refl)
+end_told (Err (ending.Stop w)) is = absurd cc
+
+same_ending : (a b : Ending) → (let r : Result Event Ending = Err a in r) ≡ Err b → a ≡ b
+same_ending a b e = cc
+
+-- the law's ending of a step
+over_by : (n : Network) (x : law.Stepped) (e : Ending) → told_of n x ≡ Err e → (time : ℕ) × (why : law.Ending) × (x ≡ law.Over time why) × (ending_in n time why ≡ e)
+over_by n (law.Happened f) e told = absurd cc
+over_by n (law.Over time why) e told = (time, why, refl, same_ending (ending_in n time why) e told)
+
+module _ (o : Opened) (es : List law.Event) (s : State) (c : Course) (st : Stands o es s c) where
+  abbrev net : Net
+  net = net_by o
+
+  is_lawful : IsLawful net
+  is_lawful = lawful o.network st.known (draw_of o.seed) (limits_in o.limits)
+
+  end_is : (time : ℕ) (why : law.Ending) → (law.step net s).0 ≡ law.Over time why → IsEnd o.network net time why
+  end_is time why over = ends o.network (draw_of o.seed) (limits_in o.limits) is_lawful s time why (fits_at o.network (draw_of o.seed) (limits_in o.limits) is_lawful es s st.runs) over
+
+  many_spans : length c.account.running.spans ≡ length o.network.rewards
+  many_spans = ap (λ (xs : List Span). length xs) (sym st.counted.is_of.spans) ∙ length-map o.network.rewards (λ r. span_in r.span)
+
+  -- what the account says of a reward is its worth
+  worth_by : (r : ℕ) → r < length o.network.rewards → tally_worth (net_in c.account.running) c.account.running.tally c.account.running.time r ≡ reward.worth net r (opening_state net) es
+  worth_by r h =
+      let a = c.account in
+      let inside : r < length net.spans = omega (arith, h, length-map o.network.rewards (λ r. span_in r.span)) in
+      sym (worth_same net a.running st.counted.is_of r)
+      ∙ counted_worth net (opening_state net) s es a.running.time a.running.tally st.runs st.counted.counts (st.counted.rates ∙ rates_law s.marking o.network (draw_of o.seed) (limits_in o.limits)) r inside
+
+  worths_are : (time : ℕ) (why : law.Ending) (r : ℕ) → r < length o.network.rewards → worth_at net es why r ≡ worths_by c.account (ending_in o.network time why) r
+  worths_are time law.End r h = ap (λ (w : reward.Worth). (let x : Option Worth = Some (worth_said w) in x)) (sym (worth_by r h))
+  worths_are time law.Unstable r h = refl
+  worths_are time law.Events r h = refl
+  worths_are time (law.Trapped j k trap) r h = refl
+
+  ends_in : (time : ℕ) (why : law.Ending) → IsEnd o.network net time why → EndsIn o.network (ending_in o.network time why)
+  ends_in time law.End is = tt
+  ends_in time law.Unstable is = tt
+  ends_in time law.Events is = tt
+  ends_in time (law.Trapped j k trap) is = act_below o.network st.known j k is
+
+  closing_is : (time : ℕ) (why : law.Ending) → (law.step net s).0 ≡ law.Over time why → left_after o es (trajectory net s) ≡ closing c.flat.now c.account c.count (ending_in o.network time why)
+  closing_is time why over =
+      let n = o.network in
+      let e = ending_in n time why in
+      lines_last o es s time why over
+      ∙ (ap (λ (xs : List ℕ). ending_line n (length es) e ++ xs) (rewards_like n.rewards 0 (worth_at net es why) (worths_by c.account e) (λ q l h. worths_are time why q (omega (arith, h))))
+      ∙ (ap (λ (k : ℕ). closing n c.account k e) (sym st.many) ∙ ap (λ (m : Network). closing m c.account c.count e) (sym st.of_network)))
+
+  over : (first now : Option (List ℕ)) (time : ℕ) (why : law.Ending) → (law.step net s).0 ≡ law.Over time why → Sent first now c.pages (report_of o) (left_after o es (trajectory net s)) → IsOver o first now c (ending_in o.network time why)
+  over first now time why is sent = record {
+    outcome = outcome_is o es s time why st.runs is;
+    within = subst (λ (n : Network). EndsIn n (ending_in o.network time why)) (sym st.of_network) (ends_in time why (end_is time why is));
+    spans = many_spans ∙ ap (λ (n : Network). length n.rewards) (sym st.of_network);
+    put = subst (λ (xs : List ℕ). Sent first now c.pages (report_of o) xs) (closing_is time why is) sent;
+  }
+
+  is_over : (first now : Option (List ℕ)) (e : Ending) → (step_of c.seq).0 ≡ Err e → Sent first now c.pages (report_of o) (left_after o es (trajectory net s)) → IsOver o first now c e
+  is_over first now e told sent =
+      let at = over_by o.network (law.step net s).0 e (ap (λ (r : Run). (step_of r).0) (sym st.at_state) ∙ told) in
+      subst (IsOver o first now c) at.3 (over first now at.0 at.1 at.2 sent)
+
+  end_tick : (time : ℕ) (why : law.Ending) (h : Tick) → IsEnd o.network net time why → ending_in o.network time why ≡ ending.End h → h ≡ o.limits.horizon
+  end_tick time law.End h is e = same (record { 0 = time }) h e is
+    where
+      tick : (a b : Tick) → a.0 ≡ b.0 → a ≡ b
+      tick a b q = ap (λ (x : ℕ). (let t : Tick = record { 0 = x } in t)) q
+
+      same : (a b : Tick) → ending.End a ≡ ending.End b → a.0 ≡ o.limits.horizon.0 → b ≡ o.limits.horizon
+      same a b q z = let w : a ≡ b = cc in sym w ∙ tick a o.limits.horizon z
+  end_tick time law.Unstable h is e = absurd cc
+  end_tick time law.Events h is e = absurd cc
+  end_tick time (law.Trapped j k trap) h is e = absurd cc
+
+  -- the end is at the horizon
+  at_horizon : (h : Tick) → (step_of c.seq).0 ≡ Err (ending.End h) → (step_of c.seq).0 ≡ Err (ending.End c.limits.horizon)
+  at_horizon h told =
+      let at = over_by o.network (law.step net s).0 (ending.End h) (ap (λ (r : Run). (step_of r).0) (sym st.at_state) ∙ told) in
+      let tick = end_tick at.0 at.1 h (end_is at.0 at.1 at.2) at.3 in
+      told ∙ ap (λ (t : Tick). (let r : Result Event Ending = Err (ending.End t) in r)) (tick ∙ ap (λ l. l.horizon) (sym st.in_limits))
+
+  -- a run that has ended at its horizon, or stopped
+  pub ended : (first now : Option (List ℕ)) → stepped.End ≡ stepped_of (step_of c.seq).0 → Sent first now c.pages (report_of o) (left_after o es (trajectory net s)) → IsOver o first now c (ending.End c.limits.horizon)
+  ended first now said sent = let told = end_told (step_of c.seq).0 (sym said) in is_over first now (ending.End c.limits.horizon) (at_horizon told.0 told.1) sent
+
+  pub stopped : (first now : Option (List ℕ)) (why : Stop) → stepped.Stopped why ≡ stepped_of (step_of c.seq).0 → Sent first now c.pages (report_of o) (left_after o es (trajectory net s)) → IsOver o first now c (ending.Stop why)
+  stopped first now why said sent = is_over first now (ending.Stop why) (stop_told (step_of c.seq).0 why (sym said)) sent

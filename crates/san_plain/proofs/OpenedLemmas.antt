@@ -1,0 +1,54 @@
+-- A run that has not begun stands for the law's opening state, with the whole report to come.
+use Rattle.std.proofs.Common.{ℕ, sym, refl, subst, arith, List, [], Option}
+use Rattle.san_base.proofs.FlowLemmas.{appends_nothing}
+use Rattle.san_draw.specs.Key.{draw_of}
+use Rattle.san_law.specs.State.{State, opening_state}
+use Rattle.san_law.specs.Trajectory.{trajectory}
+use Rattle.san_net.specs.Laid.{IsNetwork}
+use Rattle.san_reward.specs.Running.{rates_in}
+use Rattle.san_plain.specs.Accounts.{Account, opened_account}
+use Rattle.san_plain.specs.Courses.{HasCounted, IsOpened, IsUnderWay, Stands, left_after, opened_by}
+use Rattle.san_plain.specs.Pages.{Sent}
+use Rattle.san_plain.specs.Reports.{Opened, net_by, report_of}
+use Rattle.san_plain.specs.declared.run.Course.{Course}
+use Rattle.san_plain.proofs.CountLemmas.{opened_counts, opened_is}
+use Rattle.san_plain.proofs.ReportLemmas.{whole_left}
+use Rattle.san_seq.specs.Overs.{limits_in}
+
+module _ (o : Opened) where
+  abbrev start : State
+  start = opening_state (net_by o)
+
+  abbrev none_counted : Account
+  none_counted = opened_account o.network o.limits.horizon.0
+
+  opened_counted : HasCounted o [] start none_counted
+  opened_counted = record {
+    of_network = refl;
+    at_marking = refl;
+    is_of = opened_is o.network (draw_of o.seed) (limits_in o.limits) (rates_in o.network o.network.initial);
+    rates = refl;
+    counts = opened_counts o.network (draw_of o.seed) (limits_in o.limits) (rates_in o.network o.network.initial);
+    early = omega arith;
+  }
+
+  sent_none : (first : Option (List ℕ)) → Sent first first [] (report_of o) (left_after o [] (trajectory (net_by o) start))
+  sent_none first = ([], appends_nothing first, whole_left o)
+
+module _ (c : Course) (known : IsNetwork c.flat.now) (is : IsOpened c) where
+  stands : Stands (opened_by c) [] (start (opened_by c)) c
+  stands = record {
+    known = known;
+    range = is.range;
+    of_network = refl;
+    in_limits = refl;
+    runs = refl;
+    at_state = is.run;
+    counted = subst (HasCounted (opened_by c) [] (start (opened_by c))) (sym is.rewards) (opened_counted (opened_by c));
+    many = is.none;
+  }
+
+  pub begins : (first : Option (List ℕ)) → IsUnderWay (opened_by c) first first c
+  begins first =
+      let o = opened_by c in
+      ([], start o, stands, subst (λ (page : List ℕ). Sent first first page (report_of o) (left_after o [] (trajectory (net_by o) (start o)))) (sym is.page) (sent_none o first))

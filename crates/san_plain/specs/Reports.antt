@@ -1,0 +1,66 @@
+-- The report of a run: a line for each event, numbered from 0, the ending's line, a line for each reward.
+use Rattle.std.specs.Prelude.{ℕ, suc, ◌≡◌, ◌++◌, List, [], ◌∷◌, length, Option, Some, None, Result, Ok, Err}
+use Rattle.std.specs.Option.{option_map}
+use Rattle.san_base.specs.Flow.{Appends, AppendsPrefix}
+use Rattle.san_base.specs.declared.ending.Ending.{Ending}
+use Rattle.san_base.specs.declared.limits.Limits.{Limits}
+use Rattle.san_draw.specs.Key.{draw_of}
+use Rattle.san_law.specs.Net.{Net}
+use Rattle.san_law.specs.Reward as reward
+use Rattle.san_law.specs.State.{opening_state}
+use Rattle.san_law.specs.Step as law
+use Rattle.san_law.specs.Trajectory.{Trajectory, trajectory}
+use Rattle.san_net.specs.Network.{Network, net_of}
+use Rattle.san_net.specs.declared.part.Reward.{Reward}
+use Rattle.san_report.specs.Lines.{ending_line, event_line, reward_line}
+use Rattle.san_reward.specs.declared.worth.Worth.{Worth}
+use Rattle.san_reward.specs.declared.worth.Worth.TheVariants.{Sum, Mean, Fault, Beyond}
+use Rattle.san_plain.specs.declared.run.Unwritten.{Unwritten}
+use Rattle.san_seq.specs.Overs.{limits_in}
+use Rattle.san_seq.specs.Telling.{ending_in, event_in}
+
+-- a run that has not begun
+pub record Opened : Type 0 where
+  pub network : Network
+  pub seed : ℕ
+  pub limits : Limits
+
+-- the law's net, whose draws are the seed's
+abbrev pub net_by : Opened → Net
+net_by o = net_of o.network (draw_of o.seed) (limits_in o.limits)
+
+abbrev pub event_lines : Network → ℕ → List law.Event → List ℕ
+event_lines n k [] = []
+event_lines n k (e ∷ es) = event_line n k (event_in n e) ++ event_lines n (suc k) es
+
+abbrev pub worth_said : reward.Worth → Worth
+worth_said (reward.Sum sum) = Sum sum
+worth_said (reward.Mean sum ticks) = Mean sum ticks
+worth_said reward.Faulted = Fault
+worth_said reward.Beyond = Beyond
+
+-- a run that stopped has no worths
+abbrev pub worth_at : Net → List law.Event → law.Ending → ℕ → Option Worth
+worth_at net es law.End r = Some (worth_said (reward.worth net r (opening_state net) es))
+worth_at net es e r = None
+
+-- the rewards' lines, numbered from one on
+abbrev pub reward_lines : List Reward → ℕ → (ℕ → Option Worth) → List ℕ
+reward_lines [] r worth = []
+reward_lines (x ∷ xs) r worth = reward_line x.name (worth r) ++ reward_lines xs (suc r) worth
+
+abbrev pub report_by : Network → Net → Option Trajectory → List ℕ
+report_by n net None = []
+report_by n net (Some t) = event_lines n 0 t.events ++ (ending_line n (length t.events) (ending_in n t.time t.ending) ++ reward_lines n.rewards 0 (worth_at net t.events t.ending))
+
+-- every run has a trajectory
+abbrev pub report_of : Opened → List ℕ
+report_of o = report_by o.network (net_by o) (trajectory (net_by o) (opening_state (net_by o)))
+
+abbrev pub ending_of : Opened → Option Ending
+ending_of o = option_map (λ t. ending_in o.network t.time t.ending) (trajectory (net_by o) (opening_state (net_by o)))
+
+-- the whole report was written, and so the run ended; or a front part of it
+abbrev pub Reports : Result Ending Unwritten → Opened → Option (List ℕ) → Option (List ℕ) → Type 0
+Reports (Ok e) o old new = (ending_of o ≡ Some e) × Appends old new (report_of o)
+Reports (Err fault) o old new = AppendsPrefix old new (report_of o)
