@@ -3,6 +3,7 @@ use Rattle.std.proofs.Common.{ℕ, zero, suc, ◌+◌, ◌<◌, ◌≡◌, ◌�
 use Rattle.std.proofs.lemmas.List.{get_or-set_same, length-set, length-map, set-set, set-get_or}
 use Rattle.std.specs.Prelude.{Result, Ok, Err}
 use Rattle.san_base.specs.declared.ending.Trap.{Trap}
+use Rattle.san_base.proofs.Bools.{or_none}
 use Rattle.san_law.specs.Net.{Broken, Done, Enabled, Found, Local, Net, Nothing, Row, no_row}
 use Rattle.san_law.specs.State.{State, local_of, scatter, slots_of}
 use Rattle.san_law.specs.Next.{Completes, TrapsAt, next_instant, next_of}
@@ -13,7 +14,6 @@ use Rattle.san_law.specs.Told.{Told, ending_or, event_then, told, unless_told}
 use Rattle.san_law.specs.Lawful.{AllBelow, AreDistinct, IsLawful}
 use Rattle.san_law.specs.Standing.{nothing_in}
 use Rattle.san_law.proofs.Places.{gather_scatter, scatter_length, scatter_same, scatter_twice}
-use Rattle.san_law.proofs.Flags.{or_none}
 
 pub record Fits (net : Net) (s : State) (j : ℕ) : Type 0 where
   pub below : AllBelow (slots_of net j) (length s.marking)

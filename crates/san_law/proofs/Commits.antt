@@ -2,6 +2,7 @@
 use Rattle.std.proofs.Common.{ℕ, suc, ◌+◌, ◌<◌, ◌≤◌, ◌≡◌, ◌≢◌, ◌∙◌, ◌⊎◌, ◌||◌, inl, inr, ap, sym, refl, subst, List, [], ◌∷◌, length, take, Some, None, Bool, true, false, arith, nat_eq, slice_index, slice_set, slice_index_or, cond}
 use Rattle.std.proofs.lemmas.Bool.{true≢false, eq-eqb}
 use Rattle.std.proofs.lemmas.List.{get_or-set_same, get_or-set_other, length-set, length-map, length-take, get_or-take, get_or-map}
+use Rattle.san_base.proofs.Bools.{or_none}
 use Rattle.san_law.specs.Net.{Local, Net, Rated, Row, is_bare, least_timer, no_row}
 use Rattle.san_law.specs.State.{State, gather, part_of, place_of, row_of, scatter, slots_of}
 use Rattle.san_law.specs.Step.{Event}
@@ -12,7 +13,7 @@ use Rattle.san_law.specs.Core.{Core, leaf_of, put, rates_of, with_block}
 use Rattle.san_law.specs.Lawful.{IsLaid, IsLate}
 use Rattle.san_law.specs.Standing.{Each, Holds, IsFresh, Quiet, Serves, Sized, Upto, Waits, nothing_in}
 use Rattle.san_law.proofs.Places.{gather_scatter, own_is, privates_stay, put_is, scatter_length, take_scatter, untouched, writes_none}
-use Rattle.san_law.proofs.Flags.{by_leaf, eq_other, flag_is, length_flags, or_none}
+use Rattle.san_law.proofs.Flags.{by_leaf, eq_other, flag_is, length_flags}
 use Rattle.san_law.proofs.Timers.{bare_like, least_like}
 use Rattle.san_law.proofs.Blocks.{Did, Keeps, last_after}
 

@@ -3,7 +3,8 @@ use Rattle.std.proofs.Common.{ℕ, zero, suc, ◌<◌, ◌≤◌, ◌≡◌, ◌
 use Rattle.std.proofs.lemmas.Bool.{cases_lt}
 use Rattle.san_law.specs.Net.{Row, Timer, least_timer, least_timer_from, no_row, sooner_act}
 use Rattle.san_law.specs.Renewal.{Due, least_from, sooner}
-use Rattle.san_law.specs.First.{Before, BeforeAll, BeforeTimer, FirstIsBeforeAll, IsBefore, LeastTimerIsFirst, NoTimerIsLeast, NoneIsFirst, due_of, timer_at}
+use Rattle.san_law.specs.First.{BeforeAll, FirstIsBeforeAll, NoneIsFirst, due_of, timer_at}
+use Rattle.san_law.specs.inner.Least.{Before, BeforeTimer, IsBefore, LeastTimerIsFirst, NoTimerIsLeast}
 use Rattle.san_law.proofs.Least.{least_is_before, none_is_due}
 
 -- a row's least timer is the least of its timers as dues

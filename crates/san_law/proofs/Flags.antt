@@ -1,5 +1,5 @@
 -- Lists by number.
-use Rattle.std.proofs.Common.{ℕ, zero, suc, ◌+◌, ◌<◌, ◌≡◌, ◌≢◌, ◌||◌, inl, inr, ap, sym, refl, subst, List, [], ◌∷◌, length, Some, None, Bool, true, false, arith, nat_eq}
+use Rattle.std.proofs.Common.{ℕ, zero, suc, ◌+◌, ◌<◌, ◌≡◌, ◌≢◌, inl, inr, ap, sym, refl, subst, List, [], ◌∷◌, length, Some, None, Bool, true, false, arith, nat_eq}
 use Rattle.std.proofs.lemmas.Bool.{cases_eq, ne_eqb, eq-eqb}
 use Rattle.san_law.specs.Order.{first_true, flag, flags_from}
 
@@ -67,7 +67,3 @@ eq_self j = eq-eqb j j refl
 
 pub eq_other : (i j : ℕ) → i ≢ j → nat_eq i j ≡ false
 eq_other i j n = ne_eqb i j n
-
-pub or_none : (a b : Bool) → (a || b) ≡ false → (a ≡ false) × (b ≡ false)
-or_none true b e = cc
-or_none false b e = (refl, e)

@@ -2,7 +2,7 @@
 use Rattle.std.proofs.Common.{ℕ, zero, suc, ◌+◌, ◌≤◌, ◌≡◌, ◌∙◌, inl, inr, ap, sym, refl, subst, List, [], ◌∷◌, Option, Some, None, Bool, true, false, arith, nat_lt, slice_index_or, cond}
 use Rattle.std.proofs.lemmas.Bool.{ltb-true, ltb-false, cases_lt}
 use Rattle.san_law.specs.Renewal.{Due, least_from, sooner}
-use Rattle.san_law.specs.First.{Before, LeastIsBefore, NoneIsDue}
+use Rattle.san_law.specs.inner.Least.{Before, LeastIsBefore, NoneIsDue}
 
 pub before_late : (d : Due) (leaf : ℕ) (x : ℕ × ℕ) → Before d leaf (Some x) → d.time ≤ x.0
 before_late d leaf x (inl h) = omega (arith, h)

@@ -24,3 +24,11 @@ pub mod Renewals
 pub mod Instants
 pub mod Computed
 pub mod Made
+pub mod Alone
+pub mod AnyRates
+pub mod Counting
+pub mod Frames
+pub mod Rest
+pub mod Starts
+pub mod Spans
+pub mod Within

@@ -113,7 +113,7 @@ module _ (net : Net) (law : IsLawful net) (laid : IsLaid net (length net.initial
   counts = record {
     long = length-map net.spans (λ s. zero_sum);
     sums = λ r h. zero_sums net.spans r;
-    impulses = refl;
+    impulses = omega arith;
     early = tt;
     timely = omega arith;
   }

@@ -4,6 +4,7 @@ use Rattle.std.proofs.lemmas.Bool.Decides.{nat_tests}
 use Rattle.std.proofs.lemmas.List.{ext_get_or, get_or-map, get_or-take, get_or_past, get_or-set_same, get_or-set_other, length-set}
 use Rattle.std.proofs.lemmas.List.{length-map}
 use Rattle.std.proofs.lemmas.Bool.{cases_lt, true≢false, eq-eqb, ne_eqb, eqb-true}
+use Rattle.san_base.proofs.Bools.{or_none, or_right}
 use Rattle.san_law.specs.Net.{Private, Shared, Slot}
 use Rattle.san_law.specs.State.{gather, index_of, or_next, place_of, scatter, scatter_from, taken_from}
 use Rattle.san_law.specs.Piece.{own, privates, sight, with_write, writes_from}
@@ -132,16 +133,8 @@ in_next true o = refl
 in_next false None = refl
 in_next false (Some n) = refl
 
-or_false : (a b : Bool) → (a || b) ≡ false → (a ≡ false) × (b ≡ false)
-or_false true b e = cc
-or_false false b e = (refl, e)
-
-or_true_right : (a : Bool) → (a || true) ≡ true
-or_true_right true = refl
-or_true_right false = refl
-
 pub not_in_cons : (p q : ℕ) (qs : List ℕ) → is_in (index_of p (q ∷ qs)) ≡ false → (nat_eq p q ≡ false) × (is_in (index_of p qs) ≡ false)
-not_in_cons p q qs e = or_false (nat_eq p q) (is_in (index_of p qs)) (sym (in_next (nat_eq p q) (index_of p qs)) ∙ e)
+not_in_cons p q qs e = or_none (nat_eq p q) (is_in (index_of p qs)) (sym (in_next (nat_eq p q) (index_of p qs)) ∙ e)
 
 pub not_in_from : (p q : ℕ) (qs : List ℕ) → nat_eq p q ≡ false → is_in (index_of p qs) ≡ false → is_in (index_of p (q ∷ qs)) ≡ false
 not_in_from p q qs a b = in_next (nat_eq p q) (index_of p qs) ∙ (ap (λ t. t || is_in (index_of p qs)) a ∙ b)
@@ -174,12 +167,12 @@ in_self [] i h = absurd (omega arith)
 in_self (s ∷ ss) zero h = let e : nat_eq s s ≡ true = grind (arith, nat_tests) in in_next (nat_eq s s) (index_of s ss) ∙ ap (λ t. t || is_in (index_of s ss)) e
 in_self (s ∷ ss) (suc i) h =
     in_next (nat_eq (slice_index ss i) s) (index_of (slice_index ss i) ss)
-    ∙ (ap (λ t. nat_eq (slice_index ss i) s || t) (in_self ss i (omega (arith, h))) ∙ or_true_right (nat_eq (slice_index ss i) s))
+    ∙ (ap (λ t. nat_eq (slice_index ss i) s || t) (in_self ss i (omega (arith, h))) ∙ or_right (nat_eq (slice_index ss i) s))
 
 pub not_in_any : (qs slots : List ℕ) (i : ℕ) → any_in qs slots ≡ false → i < length slots → is_in (index_of (slice_index slots i) qs) ≡ false
 not_in_any [] slots i e h = refl
 not_in_any (q ∷ qs) slots i e h =
-    let k = or_false (is_in (index_of q slots)) (any_in qs slots) e in
+    let k = or_none (is_in (index_of q slots)) (any_in qs slots) e in
     not_in_from (slice_index slots i) q qs (by_test (nat_eq (slice_index slots i) q) refl k.0) (not_in_any qs slots i k.1 h)
   where
     by_test : (b : Bool) → nat_eq (slice_index slots i) q ≡ b → is_in (index_of q slots) ≡ false → b ≡ false

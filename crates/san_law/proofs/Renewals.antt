@@ -1,8 +1,9 @@
 -- A leaf's renewal, once and again.
-use Rattle.std.proofs.Common.{ℕ, suc, ◌+◌, ◌≡◌, ◌∙◌, ap, sym, refl, subst, List, [], ◌∷◌, length, Option, Some, None, Bool, true, false, not, nat_eq, ◌&&◌, ◌||◌, slice_index, ◌≤◌, cond, arith}
+use Rattle.std.proofs.Common.{ℕ, suc, ◌+◌, ◌≡◌, ◌∙◌, ap, sym, refl, subst, List, [], ◌∷◌, length, Option, Some, None, Bool, true, false, not, nat_eq, ◌&&◌, slice_index, ◌≤◌, cond, arith}
 use Rattle.std.specs.Prelude.{Result, Ok, Err}
 use Rattle.san_base.specs.declared.ending.Trap.{Trap}
 use Rattle.std.proofs.lemmas.Bool.{eq-eqb, and_parts, and_from}
+use Rattle.san_base.proofs.Bools.{or_none}
 use Rattle.san_law.specs.Net.{Done, Faulty, Fresh, Impulse, Local, Renewing, Row, Timer, is_bare, no_timers}
 use Rattle.san_law.specs.Lawful.{IsLate}
 use Rattle.san_law.specs.Activity.{ActKind, Activity, Answer, Effected, Instant, No, Pair, Part, Timed, Traps, Yes, activity_of, case_stream, completed, delay_stream, done_by}
@@ -42,10 +43,6 @@ acts_free draws t a b v k (x ∷ acts) (c ∷ ts) (n ∷ ns) f =
     ∙ ap (clock_then k (renewed_act (draws k) t b v x x.kind c n)) (acts_free draws t a b v (suc k) acts ts ns p.1)
 
 -- no pair, no timer with one
-or_none : (a b : Bool) → (a || b) ≡ false → (a ≡ false) × (b ≡ false)
-or_none true b e = cc
-or_none false b e = (refl, e)
-
 free_one : (kind : ActKind) (x : Option Timer) → has_pair kind ≡ false → free_act kind x ≡ true
 free_one kind None e = refl
 free_one kind (Some t) e = ap not e

@@ -17,7 +17,7 @@ use Rattle.san_law.specs.Reward.{rates_from}
 use Rattle.san_law.specs.Core.{Core, burst_after, leaf_of, rates_of, sight_of, stopped, take_piece, take_told, taken, with_block, with_renewal}
 use Rattle.san_law.specs.Lawful.{IsLate, IsLawful}
 use Rattle.san_law.specs.Standing.{Each, Follows, Holds, IsFresh, Serves, Sized, Stands, Upto, Waits, nothing_in, upto, upto_going, upto_stale, upto_unsettled}
-use Rattle.san_law.specs.First.{Before}
+use Rattle.san_law.specs.inner.Least.{Before}
 use Rattle.san_law.proofs.Flags.{by_leaf, first_is, none_is}
 use Rattle.san_law.proofs.Timers.{dropped_late}
 use Rattle.san_law.proofs.Least.{before_late, least_is_before}
@@ -74,7 +74,7 @@ module _ (net : Net) (law : IsLawful net) (opening : State) (past : List Event) 
           runs = runs_later net opening s s past c.events [] st.runs refl;
           over = ap (λ (x : Stepped × State). x.0) (step_rest net s (FaultAt j k trap) (settled_nowhere net c s st.holds settled) f) ∙ ap (λ t. Over t (Trapped j k trap)) (sym st.holds.time);
           count = omega (arith, st.holds.count);
-          counts = counts_later net opening s past c.events [] c.tally c.order.time c.order.time st.runs st.counts tt (omega arith) st.counts.timely (inl refl);
+          counts = counts_later net opening s past c.events [] c.tally c.order.time c.order.time st.runs st.counts tt (omega arith) st.counts.timely (inl refl) (omega arith);
         },
       )
 
@@ -284,7 +284,7 @@ module _ (net : Net) (law : IsLawful net) (opening : State) (past : List Event) 
         runs = runs_later net opening s s past c.events [] st.runs refl;
         over = h;
         count = omega (arith, st.holds.count);
-        counts = counts_later net opening s past c.events [] c.tally c.order.time d.time st.runs st.counts tt on_time by_horizon (inr present);
+        counts = counts_later net opening s past c.events [] c.tally c.order.time d.time st.runs st.counts tt on_time by_horizon (inr present) (omega arith);
       },
     )
 

@@ -15,7 +15,7 @@ use Rattle.san_law.specs.Lawful.{IsLate, IsLawful}
 use Rattle.san_law.specs.Standing.{Counts, Follows, Holds, Sized, Stands, Upto, nothing_in, upto}
 use Rattle.san_law.proofs.Places.{sight_is}
 use Rattle.san_law.proofs.Tallies.{AllAt, counts_later, told_at_time}
-use Rattle.san_law.proofs.Steps.{count_later}
+use Rattle.san_law.proofs.Steps.{count_later, rest_few}
 use Rattle.san_law.proofs.Blocks.{EndsAs, Fits, IsReady, Keeps, ahead, keeps, last_after}
 use Rattle.san_law.proofs.Commits.{Base, holds_after, serves_like, upto_none}
 use Rattle.san_law.proofs.Orders.{below_upto, runs_later, skip}
@@ -93,8 +93,8 @@ take_follows net opening past c time kind (es, Some e) whole a b = a e refl
 take_follows net opening past c time kind (es, None) whole a b = b refl
 
 module _ (net : Net) (law : IsLawful net) (opening : State) (past : List Event) (c : Core) (u t : State) (j burst count : ℕ) (l : Local) (b : Block) (base : Base net c u j l) (keeps : Keeps net j l b) (x : Told) (before : State) (ran : Runs net opening (past ++ c.events) before) (counted : c.count ≡ before.count) (old : Counts net opening (past ++ c.events) c.order.time c.tally) (at : AllAt u.time x.0) (later : c.order.time ≤ u.time) (timely : u.time ≤ net.horizon) (rates : (c.order.time ≡ u.time) ⊎ (c.tally.rates ≡ rates_from net 0 net.parts before.marking)) where
-  counts_then : Counts net opening (past ++ (c.events ++ x.0)) u.time (tally_at net c u.time x.0)
-  counts_then = counts_later net opening before past c.events x.0 c.tally c.order.time u.time ran old at later timely rates
+  counts_then : (t : State) → Runs net opening (past ++ (c.events ++ x.0)) t → Counts net opening (past ++ (c.events ++ x.0)) u.time (tally_at net c u.time x.0)
+  counts_then t runs = counts_later net opening before past c.events x.0 c.tally c.order.time u.time ran old at later timely rates (rest_few net law opening before t past c.events x.0 ran runs)
 
   -- a block that was run, taken with its events
   pub block_taken : (kind : Kind) → Runs net opening (past ++ (c.events ++ x.0)) t → EndsAs net u t j burst b x.1 → (x.1 ≡ None → (b.close ≡ Rests) ⊎ ((b.close ≡ More) × (last_after u.last j b.completions ≡ Some j))) → u.count + length b.completions ≡ count
@@ -106,13 +106,13 @@ module _ (net : Net) (law : IsLawful net) (opening : State) (past : List Event) 
           runs = runs;
           over = subst (EndsAs net u t j burst b) is ends;
           count = ap (λ n. n + length x.0) counted ∙ sym (count_later net opening before t past c.events x.0 ran runs);
-          counts = counts_then;
+          counts = counts_then t runs;
         },
       ))
       (λ is.
       let did = subst (EndsAs net u t j burst b) is ends in (
         t,
-        stands_from net law opening past (with_block net c u.time burst count j x.0 (outcome_of net j (leaf_of c j).seen b)) t 0 runs (holds_after net c u t j burst count x.0 l b base keeps did (closes is) counts) (upto_none net c u t j burst count x.0 l b base keeps did) (omega arith) counts_then,
+        stands_from net law opening past (with_block net c u.time burst count j x.0 (outcome_of net j (leaf_of c j).seen b)) t 0 runs (holds_after net c u t j burst count x.0 l b base keeps did (closes is) counts) (upto_none net c u t j burst count x.0 l b base keeps did) (omega arith) (counts_then t runs),
       ))
 
 -- a block of a leaf, told from a time, a burst and a count

@@ -1,5 +1,5 @@
 -- Each step in which something happens is below the limit, and counts one.
-use Rattle.std.proofs.Common.{ℕ, ◌+◌, ◌*◌, ◌<◌, ◌≤◌, ◌≡◌, ap, sym, refl, subst, List, [], ◌∷◌, ◌++◌, length, map, Option, Some, None, Bool, true, false, arith, nat_le, nat_lt, cond}
+use Rattle.std.proofs.Common.{ℕ, ◌+◌, ◌*◌, ◌<◌, ◌≤◌, ◌≡◌, ap, sym, refl, subst, List, [], ◌∷◌, ◌++◌, length, map, Option, Some, None, Bool, true, false, arith, nat_le, nat_lt, cond, append_assoc}
 use Rattle.std.proofs.lemmas.Bool.{ltb-true}
 use Rattle.std.proofs.lemmas.List.{length-append}
 use Rattle.std.specs.Prelude.{Result, Ok, Err}
@@ -76,12 +76,24 @@ runs_within net s t (e ∷ es) runs =
     let h = runs_within net (step net s).1 t es runs.1 in
     (omega (arith, k.below, k.count, h.0), omega (arith, k.count, h.1))
 
-runs_few : (net : Net) → IsLawful net → (s t : State) (es : List Event) → Runs net s es t → impulses_in es ≤ 1024 * length es
+-- at most 1,024 impulses for each event
+pub runs_few : (net : Net) → IsLawful net → (s t : State) (es : List Event) → Runs net s es t → impulses_in es ≤ 1024 * length es
 runs_few net law s t [] runs = omega arith
 runs_few net law s t (e ∷ es) runs =
     let k = (counted net s e runs.0).few law in
     let h = runs_few net law (step net s).1 t es runs.1 in
     omega (arith, k, h)
+
+-- what follows the first events of a run is a run from where they lead
+runs_rest : (net : Net) (s t u : State) (xs es : List Event) → Runs net s (xs ++ es) u → Runs net s xs t → Runs net t es u
+runs_rest net s t u [] es whole first = subst (λ (v : State). Runs net v es u) first whole
+runs_rest net s t u (x ∷ xs) es whole first = runs_rest net (step net s).1 t u xs es whole.1 first.1
+
+-- and so of the events that a run goes on with
+pub rest_few : (net : Net) → IsLawful net → (s t u : State) (past xs es : List Event) → Runs net s (past ++ xs) t → Runs net s (past ++ (xs ++ es)) u → impulses_in es ≤ 1024 * length es
+rest_few net law s t u past xs es first whole =
+    let joined : Runs net s ((past ++ xs) ++ es) u = subst (λ (zs : List Event). Runs net s zs u) (sym (append_assoc past xs es)) whole in
+    runs_few net law t u es (runs_rest net s t u (past ++ xs) es joined first)
 
 -- a run goes on
 pub count_later : (net : Net) (s t u : State) (past xs es : List Event) → Runs net s (past ++ xs) t → Runs net s (past ++ (xs ++ es)) u → u.count ≡ t.count + length es
@@ -90,15 +102,14 @@ count_later net s t u past xs es a b =
     let n = (runs_within net s u (past ++ (xs ++ es)) b).1 in
     omega (arith, m, n, length-append past xs, length-append past (xs ++ es), length-append xs es)
 
-few_by : (net : Net) → IsLawful net → (opening s : State) (past : List Event) (c : Core) → Runs net opening (past ++ c.events) s → c.count ≡ s.count → Counts net opening (past ++ c.events) c.order.time c.tally → c.tally.impulses + 1024 * opening.count ≤ 1024 * c.count
-few_by net law opening s past c runs count counts =
-    let few = runs_few net law opening s (past ++ c.events) runs in
+few_by : (net : Net) (opening s : State) (past : List Event) (c : Core) → Runs net opening (past ++ c.events) s → c.count ≡ s.count → Counts net opening (past ++ c.events) c.order.time c.tally → c.tally.impulses + 1024 * opening.count ≤ 1024 * c.count
+few_by net opening s past c runs count counts =
     let n = (runs_within net opening s (past ++ c.events) runs).1 in
-    omega (arith, few, n, count, counts.impulses)
+    omega (arith, n, count, counts.impulses)
 
-tally_by : (net : Net) → IsLawful net → (opening : State) (past : List Event) (c : Core) (o : Option Ending) → follows_by net opening past c o → c.tally.impulses + 1024 * opening.count ≤ 1024 * c.count
-tally_by net law opening past c None (s, st) = few_by net law opening s past c st.runs st.holds.count st.counts
-tally_by net law opening past c (Some e) (s, st) = few_by net law opening s past c st.runs st.count st.counts
+tally_by : (net : Net) (opening : State) (past : List Event) (c : Core) (o : Option Ending) → follows_by net opening past c o → c.tally.impulses + 1024 * opening.count ≤ 1024 * c.count
+tally_by net opening past c None (s, st) = few_by net opening s past c st.runs st.holds.count st.counts
+tally_by net opening past c (Some e) (s, st) = few_by net opening s past c st.runs st.count st.counts
 
-pub tally_is_few : (net : Net) → IsLawful net → TallyIsFew net
-tally_is_few net law opening past c h = tally_by net law opening past c c.stop h
+pub tally_is_few : (net : Net) → TallyIsFew net
+tally_is_few net opening past c h = tally_by net opening past c c.stop h

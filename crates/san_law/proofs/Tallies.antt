@@ -1,9 +1,9 @@
 -- The sums of rewards, as time goes on.
-use Rattle.std.proofs.Common.{ℕ, zero, suc, ◌+◌, ◌-◌, ◌<◌, ◌≤◌, ◌≡◌, ◌∙◌, ◌⊎◌, inl, inr, ap, sym, refl, subst, List, [], ◌∷◌, ◌++◌, length, map, Option, Some, None, arith, nat_le, slice_index_or, cond, append_assoc}
+use Rattle.std.proofs.Common.{ℕ, zero, suc, ◌+◌, ◌-◌, ◌*◌, ◌<◌, ◌≤◌, ◌≡◌, ◌∙◌, ◌⊎◌, inl, inr, ap, sym, refl, subst, List, [], ◌∷◌, ◌++◌, length, map, Option, Some, None, arith, nat_le, slice_index_or, cond, append_assoc}
 use Rattle.std.specs.Prelude.{ℤ, ◌+ℤ◌}
 use Rattle.std.proofs.Math.IntN.{+ℤ_assoc, +ℤ_comm, +ℤ_idl, +ℤ_idr}
 use Rattle.std.proofs.lemmas.Bool.{le-leb, lt-leb}
-use Rattle.std.proofs.lemmas.List.{ext_get_or}
+use Rattle.std.proofs.lemmas.List.{ext_get_or, length-append}
 use Rattle.san_law.specs.Net.{Net, Rated, Slot}
 use Rattle.san_law.specs.State.{State, gather, place_of}
 use Rattle.san_law.specs.Step.{Ending, Event, limit_at, step}
@@ -117,10 +117,6 @@ events_append : (net : Net) (r : ℕ) (xs es : List Event) → events_sum net r 
 events_append net r [] es = sym (plus_first (events_sum net r es))
 events_append net r (x ∷ xs) es = ap (plus (event_sum net r x)) (events_append net r xs es) ∙ sym (plus_assoc (event_sum net r x) (events_sum net r xs) (events_sum net r es))
 
-impulses_append : (xs es : List Event) → impulses_in (xs ++ es) ≡ impulses_in xs + impulses_in es
-impulses_append [] es = omega arith
-impulses_append (x ∷ xs) es = let h = impulses_append xs es in omega (arith, h)
-
 -- a sum as the time goes on from a to b, with events at b
 sum_more : (net : Net) (r : ℕ) (opening s : State) (xs es : List Event) (rates : List (List Rated)) (sum : Rated) (a b : ℕ) → Runs net opening xs s → AllTo a xs → AllAt b es → sum ≡ sum_before net r opening xs a → a ≤ b
     → (a ≡ b) ⊎ (rates ≡ rates_from net 0 net.parts s.marking)
@@ -157,19 +153,19 @@ sums_at f a m (suc i) (s ∷ ss) h e = sums_at f (suc a) m i ss (omega (arith, h
 
 -- a tally goes on from a to b, and is told the events at b
 pub counts_more : (net : Net) (opening s : State) (xs es : List Event) (t : Tally) (a b : ℕ) → Runs net opening xs s → Counts net opening xs a t → AllAt b es → a ≤ b → b ≤ net.horizon
-    → (a ≡ b) ⊎ (t.rates ≡ rates_from net 0 net.parts s.marking)
+    → (a ≡ b) ⊎ (t.rates ≡ rates_from net 0 net.parts s.marking) → impulses_in es ≤ 1024 * length es
     → Counts net opening (xs ++ es) b (tally_after net t a b es)
-counts_more net opening s xs es t a b runs counts at h timely same =
+counts_more net opening s xs es t a b runs counts at h timely same few =
     let f : ℕ → Rated → Rated = λ r sum. plus (going_on net t a (b - a) r sum) (events_sum net r es) in record {
       long = sums_long f 0 t.sums ∙ counts.long;
       sums = λ r l. sums_at f 0 r r t.sums (omega (arith, l, counts.long)) (omega arith) ∙ sum_more net r opening s xs es t.rates (sum_of t r) a b runs counts.early at (counts.sums r l) h same;
-      impulses = ap (λ n. n + impulses_in es) counts.impulses ∙ sym (impulses_append xs es);
+      impulses = omega (arith, counts.impulses, few, length-append xs es);
       early = to_append a b xs es h counts.early at;
       timely = timely;
     }
 
 pub counts_later : (net : Net) (opening s : State) (past xs es : List Event) (t : Tally) (a b : ℕ) → Runs net opening (past ++ xs) s → Counts net opening (past ++ xs) a t → AllAt b es → a ≤ b → b ≤ net.horizon
-    → (a ≡ b) ⊎ (t.rates ≡ rates_from net 0 net.parts s.marking)
+    → (a ≡ b) ⊎ (t.rates ≡ rates_from net 0 net.parts s.marking) → impulses_in es ≤ 1024 * length es
     → Counts net opening (past ++ (xs ++ es)) b (tally_after net t a b es)
-counts_later net opening s past xs es t a b runs counts at h timely same =
-    subst (λ (ys : List Event). Counts net opening ys b (tally_after net t a b es)) (append_assoc past xs es) (counts_more net opening s (past ++ xs) es t a b runs counts at h timely same)
+counts_later net opening s past xs es t a b runs counts at h timely same few =
+    subst (λ (ys : List Event). Counts net opening ys b (tally_after net t a b es)) (append_assoc past xs es) (counts_more net opening s (past ++ xs) es t a b runs counts at h timely same few)

@@ -21,5 +21,10 @@ pub mod First
 pub mod Activity
 pub mod Clocks
 pub mod Network
-pub mod Searches
 pub mod Examples
+pub mod Alone
+pub mod Counting
+pub mod Frames
+pub mod Rates
+pub mod Starts
+pub mod inner

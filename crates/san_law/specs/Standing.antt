@@ -1,5 +1,5 @@
 -- How a core's committed part stands for a state of the run.
-use Rattle.std.specs.Prelude.{ℕ, ◌<◌, ◌≤◌, ◌≡◌, ◌⊎◌, ◌≢◌, List, [], ◌∷◌, ◌++◌, length, take, Option, Some, None, true, false, slice_index_or}
+use Rattle.std.specs.Prelude.{ℕ, ◌<◌, ◌≤◌, ◌*◌, ◌≡◌, ◌⊎◌, ◌≢◌, List, [], ◌∷◌, ◌++◌, length, take, Option, Some, None, true, false, slice_index_or}
 use Rattle.san_law.specs.Net.{Fresh, Net, Nothing, Rated, Row, is_bare, least_timer}
 use Rattle.san_law.specs.State.{State, gather, part_of, row_of, slots_of}
 use Rattle.san_law.specs.Next.{next_of}
@@ -9,7 +9,7 @@ use Rattle.san_law.specs.Trajectory.{Runs}
 use Rattle.san_law.specs.Piece.{LeafState, kept, privates}
 use Rattle.san_law.specs.Order.{Order, first_true, flag}
 use Rattle.san_law.specs.Reward.{sum_before}
-use Rattle.san_law.specs.Tally.{Tally, impulses_in, sum_of}
+use Rattle.san_law.specs.Tally.{Tally, sum_of}
 use Rattle.san_law.specs.Core.{Core, leaf_of, rates_of}
 use Rattle.san_law.specs.Lawful.{IsLaid, IsLate}
 
@@ -94,11 +94,11 @@ abbrev pub AllTo : ℕ → List Event → Type 0
 AllTo time [] = Unit {0}
 AllTo time (e ∷ es) = (e.time ≤ time) × AllTo time es
 
--- a tally has counted the ticks before a time and the impulses of these events; no event is later, nor is the time past the horizon
+-- a tally has counted the ticks before a time and the impulses of these events, and was told at most 1,024 of them for each; no event is later, nor is the time past the horizon
 pub record Counts (net : Net) (opening : State) (es : List Event) (time : ℕ) (tally : Tally) : Type 0 where
   pub long : length tally.sums ≡ length net.spans
   pub sums : (r : ℕ) → r < length net.spans → sum_of tally r ≡ sum_before net r opening es time
-  pub impulses : tally.impulses ≡ impulses_in es
+  pub impulses : tally.impulses ≤ 1024 * length es
   pub early : AllTo time es
   pub timely : time ≤ net.horizon
 

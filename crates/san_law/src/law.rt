@@ -1,3 +1,5 @@
+//! The laws of the core's committed part: what taking a needed piece keeps, and what follows.
+
 ghost use Rattle.std.specs.Prelude.{List};
 ghost use Rattle.san_law.specs.Net.{Net, Row};
 ghost use Rattle.san_law.specs.Lawful.{IsLawful};
@@ -74,7 +76,7 @@ pub fn a_piece_leaves_less()
 /// A core was told at most 1,024 impulses for each of its events.
 #[tactic(auto, using(crate::proofs::Steps::tally_is_few))]
 pub fn a_tally_is_small()
-    ensures { (net : Net) → IsLawful net → TallyIsFew net }
+    ensures { (net : Net) → TallyIsFew net }
 {}
 
 /// The running sums of a core that needs no piece are the rewards of the trajectory.

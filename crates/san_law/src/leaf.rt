@@ -1,3 +1,5 @@
+//! The laws of a leaf: its activities, its timers, the order of its instantaneous activities.
+
 ghost use Rattle.std.specs.Prelude.{List};
 ghost use Rattle.san_law.specs.Activity.{Activity, Part, AreInOrder, instants_from};
 ghost use Rattle.san_law.specs.Clocks.{SteadyIsQuiet, QuietIsSteady};

@@ -1,12 +1,14 @@
 //! Definitions of a run and of its pieces, and the law between them.
 #![tactic(auto)]
 
+mod examples;
+mod frame;
 mod law;
 mod leaf;
-mod limit;
-mod order;
-mod rows;
+mod start;
 
+pub use examples::{small_pieces, small_rewards, small_runs, the_law_has_a_subject};
+pub use frame::{a_piece_is_its_parts, a_taken_piece_is_framed, a_tally_counts_one_by_one};
 pub use law::{
     a_core_is_renewed_in_part, a_fresh_leaf_stays, a_piece_ahead_is_the_needed_one,
     a_piece_keeps_the_standing, a_piece_leaves_less, a_resumed_core_follows, a_run_has_an_ending,
@@ -15,6 +17,6 @@ pub use law::{
     the_least_timer_is_first,
 };
 pub use leaf::{a_steady_leaf_is_quiet, greater_priority_is_first, leaves_keep_to_themselves};
-pub use limit::{Limit, limit_at};
-pub use order::{first_due, first_flagged};
-pub use rows::{small_pieces, small_rewards, small_runs, the_law_has_a_subject};
+pub use start::{
+    a_run_starts_again, an_opening_has_any_rates, earlier_events_change_nothing, pieces_go_on,
+};

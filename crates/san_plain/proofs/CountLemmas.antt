@@ -2,16 +2,14 @@
 use Rattle.std.proofs.Common.{ℕ, zero, suc, ◌*◌, ◌≤◌, ◌≡◌, ◌∙◌, inl, inr, ap, sym, refl, subst, arith, List, [], ◌∷◌, ◌++◌, length, append-nil, slice_index_or}
 use Rattle.std.specs.Prelude.{replicate}
 use Rattle.std.proofs.lemmas.List.{length-map, length-replicate}
-use Rattle.san_law.proofs.Steps.{counted}
 use Rattle.san_law.proofs.Tallies.{counts_more, plus_first}
-use Rattle.san_law.specs.Lawful.{IsLawful}
 use Rattle.san_law.specs.Net.{Impulse, Net, Rated}
 use Rattle.san_law.specs.Network.{Limits}
 use Rattle.san_law.specs.Reward.{rates_from, zero_sum}
 use Rattle.san_law.specs.Standing.{Counts}
 use Rattle.san_law.specs.State.{State, opening_state}
 use Rattle.san_law.specs.Step.{Event, Happened, step}
-use Rattle.san_law.specs.Tally.{impulses_in, tally_after}
+use Rattle.san_law.specs.Tally.{tally_after}
 use Rattle.san_law.specs.Trajectory.{Runs}
 use Rattle.san_net.specs.Network.{Network, net_of, span_in}
 use Rattle.san_reward.specs.Running.{IsOf, Running, advanced, opened, with_all_rates, with_impulses}
@@ -23,11 +21,6 @@ pub runs_on : (net : Net) (es : List Event) (s t : State) (e : Event) → Runs n
 runs_on net [] s t e runs is = (ap (λ (x : State). (step net x).0) runs ∙ is, ap (λ (x : State). (step net x).1) runs)
 runs_on net (f ∷ es) s t e runs is = (runs.0, runs_on net es (step net s).1 t e runs.1 is)
 
--- at most 1,024 impulses for each event
-pub impulses_few : (net : Net) → IsLawful net → (es : List Event) (s t : State) → Runs net s es t → impulses_in es ≤ 1024 * length es
-impulses_few net law [] s t runs = omega arith
-impulses_few net law (e ∷ es) s t runs = omega (arith, (counted net s e runs.0).few law, impulses_few net law es (step net s).1 t runs.1)
-
 -- a tally after an event, and what else is of the network still
 pub record CountsOn (net : Net) (opening : State) (es : List Event) (e : Event) (rates : List (List Rated)) (u : Running) : Type 0 where
   pub is_of : IsOf net u
@@ -35,7 +28,7 @@ pub record CountsOn (net : Net) (opening : State) (es : List Event) (e : Event) 
   pub set : u.tally.rates ≡ rates
   pub counts : Counts net opening (es ++ e ∷ []) u.time u.tally
 
-module _ (net : Net) (opening s : State) (es : List Event) (e : Event) (t : Running) (rates : List (List Rated)) (is : IsOf net t) (runs : Runs net opening es s) (counts : Counts net opening es t.time t.tally) (present : t.tally.rates ≡ rates_from net 0 net.parts s.marking) (later : t.time ≤ e.time) (within : e.time ≤ net.horizon) where
+module _ (net : Net) (opening s : State) (es : List Event) (e : Event) (t : Running) (rates : List (List Rated)) (is : IsOf net t) (runs : Runs net opening es s) (counts : Counts net opening es t.time t.tally) (present : t.tally.rates ≡ rates_from net 0 net.parts s.marking) (later : t.time ≤ e.time) (within : e.time ≤ net.horizon) (few : length e.impulses ≤ 1024) where
   abbrev v : Running
   v = with_all_rates (advanced t e.time) rates
 
@@ -46,7 +39,7 @@ module _ (net : Net) (opening s : State) (es : List Event) (e : Event) (t : Runn
   advanced_counts =
       subst (Counts net opening es e.time) (advance_same net t is e.time)
       (subst (λ (xs : List Event). Counts net opening xs e.time (tally_after net t.tally t.time e.time [])) (append-nil es)
-      (counts_more net opening s es [] t.tally t.time e.time runs counts tt later within (inr present)))
+      (counts_more net opening s es [] t.tally t.time e.time runs counts tt later within (inr present) (omega arith)))
 
   v_counts : Counts net opening es e.time v.tally
   v_counts =
@@ -56,7 +49,7 @@ module _ (net : Net) (opening s : State) (es : List Event) (e : Event) (t : Runn
   event_counts : Counts net opening (es ++ e ∷ []) e.time (with_impulses v e.impulses).tally
   event_counts =
       subst (Counts net opening (es ++ e ∷ []) e.time) (event_same net v v_is e refl)
-      (counts_more net opening s es (e ∷ []) v.tally e.time e.time runs v_counts (refl, tt) (omega arith) within (inl refl))
+      (counts_more net opening s es (e ∷ []) v.tally e.time e.time runs v_counts (refl, tt) (omega arith) within (inl refl) (omega (arith, few)))
 
   told_on : CountsOn net opening es e rates (with_impulses v e.impulses)
   told_on =
@@ -82,7 +75,7 @@ pub opened_counts : (n : Network) (draw : ℕ → ℕ → ℕ) (bounds : Limits)
 opened_counts n draw bounds rates = record {
   long = length-replicate (length n.rewards) zero_sum ∙ sym (length-map n.rewards (λ r. span_in r.span));
   sums = λ r h. zeros_at (length n.rewards) r ∙ sym (plus_first zero_sum);
-  impulses = refl;
+  impulses = omega arith;
   early = tt;
   timely = omega arith;
 }

@@ -21,7 +21,7 @@ use Rattle.san_plain.specs.Courses.{HasCounted, Stands, left_after, run_at}
 use Rattle.san_plain.specs.Pages.{Sent}
 use Rattle.san_plain.specs.Reports.{Opened, net_by, report_of}
 use Rattle.san_plain.specs.declared.run.Course.{Course}
-use Rattle.san_plain.proofs.CountLemmas.{counts_on, impulses_few, runs_on}
+use Rattle.san_plain.proofs.CountLemmas.{counts_on, runs_on}
 use Rattle.san_plain.proofs.NumberLemmas.{act_below, impulses_same, reaches}
 use Rattle.san_plain.proofs.ReportLemmas.{line_first}
 use Rattle.san_plain.proofs.StepLemmas.{Completion, completes, fits_at}
@@ -121,8 +121,7 @@ module _ (o : Opened) (es : List law.Event) (s : State) (c : Course) (st : Stand
     few =
         let now = ap (λ xs. length xs) impulses_are in
         let one = (counted net s happened happens).few is_lawful in
-        let all = impulses_few net is_lawful es (opening_state net) s st.runs in
-        omega (arith, now, one, all, events_few, st.counted.counts.impulses, st.range.events_in_range.1)
+        omega (arith, now, one, events_few, st.counted.counts.impulses, st.range.events_in_range.1)
 
     pub reaching : Reaches c.account.network event.act.0 c.account.marking m
     reaching =
@@ -140,7 +139,7 @@ module _ (o : Opened) (es : List law.Event) (s : State) (c : Course) (st : Stand
         let present : was.running.tally.rates ≡ rates_from net 0 net.parts s.marking = st.counted.rates ∙ rates_law s.marking o.network (draw_of o.seed) (limits_in o.limits) in
         let running : a.running ≡ with_impulses (with_all_rates (advanced was.running happened.time) (rates_in was.network m)) (impulses_of was.network event.act.0 m) =
         ap (λ (x : Account). x.running) is ∙ ap (λ (t : ℕ). with_impulses (with_all_rates (advanced was.running t) (rates_in was.network m)) (impulses_of was.network event.act.0 m)) (sym time_is) in
-        let on = counts_on net (opening_state net) s es happened was.running (rates_in was.network m) st.counted.is_of st.runs st.counted.counts present (omega (arith, st.counted.early, in_time.later)) in_time.within a.running (impulses_of was.network event.act.0 m) impulses_are running in
+        let on = counts_on net (opening_state net) s es happened was.running (rates_in was.network m) st.counted.is_of st.runs st.counted.counts present (omega (arith, st.counted.early, in_time.later)) in_time.within ((counted net s happened happens).few is_lawful) a.running (impulses_of was.network event.act.0 m) impulses_are running in
         record {
           of_network = ap (λ (x : Account). x.network) is ∙ st.counted.of_network;
           at_marking = ap (λ (x : Account). x.marking) is ∙ marking_is;

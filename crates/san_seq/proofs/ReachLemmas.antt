@@ -9,7 +9,7 @@ use Rattle.san_law.proofs.Least.{before_late, least_is_before}
 use Rattle.san_law.proofs.Places.{gather_scatter}
 use Rattle.san_law.proofs.Timers.{dropped_late, least_like}
 use Rattle.san_law.specs.Activity.{Effected, Part, activity_of, case_stream, completed, done_by}
-use Rattle.san_law.specs.First.{Before}
+use Rattle.san_law.specs.inner.Least.{Before}
 use Rattle.san_law.specs.Lawful.{IsLaid, IsLate, IsLawful}
 use Rattle.san_law.specs.Net.{Done, Faulty, Fresh, Local, Net, Renewing, Row, least_timer, without_timer}
 use Rattle.san_law.specs.Network.{Limits, part_at}

@@ -1,3 +1,5 @@
+//! Small networks, run step by step, with their rewards and pieces.
+
 ghost use Rattle.std.specs.Prelude.{◌≡◌, pos, length, Some, [], ◌∷◌};
 ghost use Rattle.san_base.specs.declared.ending.Trap.TheVariants as trap;
 ghost use Rattle.san_law.specs.Step.{End, Events, Trapped, Unstable};
