@@ -1,4 +1,8 @@
+//! The winner tree: keys, the matches between them, and their winners.
+
 ghost use Rattle.std.specs.Prelude.{◌≡◌, ℕ, ◌+◌, ◌-◌, ◌<◌, ◌≤◌, ◌^◌, ◌≢◌, length, IfOk, slice_index_or, replicate, None};
+//! The winner tree: keys, the matches between them, and their winners.
+
 ghost use Rattle.san_winner.specs.Least.{sooner, leaf, span, IsTree, IsTreeBut};
 
 use std::alloc::{AllocError, Global};

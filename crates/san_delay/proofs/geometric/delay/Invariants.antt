@@ -1,6 +1,6 @@
 use Rattle.std.proofs.Common.{◌≡◌, ℕ, ◌+◌, ◌^◌, ◌<◌, ◌≤◌}
 use Rattle.san_expr.specs.Delay.{chance_left}
-use Rattle.san_delay.proofs.series.geometric.Given as goal
+use Rattle.san_delay.proofs.geometric.delay.Given as goal
 
 abbrev pub invariant-loop-left : goal.invariant-loop-left
 invariant-loop-left l = record {

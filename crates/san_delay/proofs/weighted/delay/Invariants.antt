@@ -1,6 +1,6 @@
 use Rattle.std.proofs.Common.{◌≡◌, ◌+◌, ◌≤◌, drop, map, sum}
 use Rattle.san_delay.proofs.TableLemmas.{first_delay}
-use Rattle.san_delay.proofs.table.chosen.Given as goal
+use Rattle.san_delay.proofs.weighted.delay.Given as goal
 
 abbrev pub invariant-loop-delay : goal.invariant-loop-delay
 invariant-loop-delay l = record {

@@ -4,7 +4,7 @@ use Rattle.san_delay.specs.Series.{IsSeries}
 use Rattle.san_delay.proofs.KeptLemmas.{parted, searched}
 use Rattle.san_delay.proofs.SeriesLemmas.{geometric-within}
 use Rattle.san_expr.specs.Delay.{geometric}
-use Rattle.san_delay.proofs.kept.Series.geometric.Goals as goal
+use Rattle.san_delay.proofs.geometric.GeometricTable.delay.Goals as goal
 
 found : (c : goal.After-partition_point) → c.partition_point.result + 1 ≡ geometric c.args.self.now.p c.args.self.now.q c.args.u
 found c =

@@ -1,7 +1,7 @@
 use Rattle.std.proofs.Common.{arith, ◌≡◌, ◌∙◌, ap, ℕ, ◌+◌, ◌*◌, ◌/◌, ◌<◌, ◌^◌, length}
 use Rattle.san_expr.specs.Delay.{chance_left, geometric}
 use Rattle.san_delay.proofs.KeptLemmas.{product_fits, next_fits, turn, longest_ends}
-use Rattle.san_delay.proofs.kept.Series.new.Goals as goal
+use Rattle.san_delay.proofs.geometric.GeometricTable.new.Goals as goal
 
 pub overflow_mul-left : goal.overflow_mul-left
 overflow_mul-left c =

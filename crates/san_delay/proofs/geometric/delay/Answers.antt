@@ -1,6 +1,6 @@
 use Rattle.std.proofs.Common.{arith}
 use Rattle.san_delay.proofs.SeriesLemmas.{geometric-is, geometric-within}
-use Rattle.san_delay.proofs.series.geometric.Goals as goal
+use Rattle.san_delay.proofs.geometric.delay.Goals as goal
 
 pub returns-clause-value : goal.returns-clause-value
 returns-clause-value c =

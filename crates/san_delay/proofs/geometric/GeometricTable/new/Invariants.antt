@@ -1,6 +1,6 @@
 use Rattle.std.proofs.Common.{ℕ, ◌≡◌, ◌<◌, suc, length, slice_index}
 use Rattle.san_expr.specs.Delay.{chance_left}
-use Rattle.san_delay.proofs.kept.Series.new.Given as goal
+use Rattle.san_delay.proofs.geometric.GeometricTable.new.Given as goal
 
 abbrev pub invariant-ticks : goal.invariant-ticks
 invariant-ticks l = record {

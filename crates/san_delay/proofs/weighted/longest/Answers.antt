@@ -1,7 +1,7 @@
 use Rattle.std.proofs.Common.{sym, subst}
 use Rattle.san_delay.specs.Sound.{IsDelay}
 use Rattle.san_delay.proofs.TableLemmas.{greatest_end, greatest_within}
-use Rattle.san_delay.proofs.table.greatest.Goals as goal
+use Rattle.san_delay.proofs.weighted.longest.Goals as goal
 
 pub returns-clause-within : goal.returns-clause-within
 returns-clause-within c =

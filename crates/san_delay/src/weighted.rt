@@ -1,3 +1,5 @@
+//! A delay out of a table of delays and their weights.
+
 ghost use Rattle.std.specs.Prelude.{◌≡◌, slice_index, map};
 ghost use Rattle.san_base.specs.Draws.{weighted_choice};
 ghost use Rattle.san_delay.specs.Longest.{greatest};
@@ -5,8 +7,11 @@ ghost use Rattle.san_delay.specs.Sound.{IsDelay, IsTable};
 
 use san_draw::pick;
 
+/// The entries of the longest table.
+pub const MAX_ENTRIES: usize = 64;
+
 /// The delay that a draw chooses by the weights.
-pub(crate) fn chosen(entries: &[(u64, u64)], u: u64) -> u64
+pub(crate) fn delay(entries: &[(u64, u64)], u: u64) -> u64
     requires { IsTable entries.now }
     ensures value { result ≡ slice_index (map (λ e. e.0) entries.now) (weighted_choice u (map (λ e. e.1) entries.now)) }
     ensures within { IsDelay result }
@@ -24,7 +29,7 @@ pub(crate) fn chosen(entries: &[(u64, u64)], u: u64) -> u64
 }
 
 /// The greatest delay that has a weight.
-pub(crate) fn greatest(entries: &[(u64, u64)]) -> u64
+pub(crate) fn longest(entries: &[(u64, u64)]) -> u64
     requires { IsTable entries.now }
     ensures value { result ≡ greatest entries.now }
     ensures within { IsDelay result }
