@@ -18,7 +18,6 @@ pub mod RangeLemmas
 pub mod RunningLemmas
 pub mod SteppingLemmas
 pub mod OpeningLemmas
-pub mod FlagLemmas
 pub mod TouchLemmas
 pub mod OpenLemmas
 pub mod WithinLemmas

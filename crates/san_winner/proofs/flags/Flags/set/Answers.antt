@@ -1,7 +1,7 @@
 use Rattle.std.proofs.Common.{◌∙◌, ap, sym, subst, map, Bool, List, slice_set}
-use Rattle.san_seq.specs.Flags.{AreKeys, is_up}
-use Rattle.san_seq.proofs.FlagLemmas.{keys_set, up_set}
-use Rattle.san_seq.proofs.flags.Flags.set.Goals as goal
+use Rattle.san_winner.specs.Flags.{AreKeys, is_up}
+use Rattle.san_winner.proofs.FlagLemmas.{keys_set, up_set}
+use Rattle.san_winner.proofs.flags.Flags.set.Goals as goal
 
 pub invariant_of-self : goal.invariant_of-self
 invariant_of-self c = subst AreKeys (sym c.set.ensures) (keys_set c.self.inside.keys c.args.at c.key_of.result c.key_of.ensures.key c.self.invariant)

@@ -1,9 +1,9 @@
 use Rattle.std.proofs.Common.{◌∙◌, ◌≤◌, ap, sym, subst, length, Bool, List, ℕ}
 use Rattle.std.proofs.lemmas.List.{length-map}
 use Rattle.san_winner.specs.Least.{Won, least_between}
-use Rattle.san_seq.specs.Flags.{SaysNext, is_up}
-use Rattle.san_seq.proofs.FlagLemmas.{as_next, says_next}
-use Rattle.san_seq.proofs.flags.Flags.next.Goals as goal
+use Rattle.san_winner.specs.Flags.{SaysNext, is_up}
+use Rattle.san_winner.proofs.FlagLemmas.{as_next, says_next}
+use Rattle.san_winner.proofs.flags.Flags.next.Goals as goal
 
 pub returns-in-Some : goal.returns-in-Some
 returns-in-Some c =

@@ -1,7 +1,7 @@
 use Rattle.std.proofs.Common.{◌≡◌, length}
-use Rattle.san_seq.specs.Flags.{AreKeys}
-use Rattle.san_seq.proofs.FlagLemmas.{UpTo}
-use Rattle.san_seq.proofs.flags.Flags.open.Given as goal
+use Rattle.san_winner.specs.Flags.{AreKeys}
+use Rattle.san_winner.proofs.FlagLemmas.{UpTo}
+use Rattle.san_winner.proofs.flags.Flags.open.Given as goal
 
 abbrev pub invariant-flags : goal.invariant-flags
 invariant-flags l = record {

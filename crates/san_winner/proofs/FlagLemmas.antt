@@ -3,9 +3,9 @@ use Rattle.std.proofs.Common.{ℕ, zero, suc, ◌+◌, ◌-◌, ◌<◌, ◌≤�
 use Rattle.std.specs.Prelude.{slice_get}
 use Rattle.std.proofs.lemmas.Bool.{ltb-true}
 use Rattle.std.proofs.lemmas.List.{length-map}
-use Rattle.san_law.specs.State.{repeated}
+use Rattle.san_base.proofs.Lists.{take_whole}
 use Rattle.san_winner.specs.Least.{Won, sooner, least_from, least_between}
-use Rattle.san_seq.specs.Flags.{AreKeys, IsKey, SaysNext, is_up}
+use Rattle.san_winner.specs.Flags.{AreKeys, IsKey, SaysNext, is_up}
 
 -- what the least of these keys, the first of which stands at i, says
 abbrev Says : ℕ → List (Option ℕ) → Won → Type 0
@@ -53,12 +53,6 @@ long_drop : (from : ℕ) (xs : List (Option ℕ)) → length (drop from xs) ≡ 
 long_drop zero xs = omega arith
 long_drop (suc n) [] = omega arith
 long_drop (suc n) (x ∷ xs) = let rest = long_drop n xs in omega (arith, rest)
-
-take_whole : (n : ℕ) (xs : List (Option ℕ)) → length xs ≤ n → take n xs ≡ xs
-take_whole zero [] h = refl
-take_whole (suc n) [] h = refl
-take_whole zero (x ∷ xs) h = absurd (omega (arith, h))
-take_whole (suc n) (x ∷ xs) h = ap (λ (ys : List (Option ℕ)). x ∷ ys) (take_whole n xs (omega (arith, h)))
 
 abbrev pub as_next : Won → Option ℕ
 as_next None = None
@@ -113,7 +107,7 @@ up_more k [] h = tt
 up_more zero (x ∷ xs) h = (refl, tt)
 up_more (suc k) (x ∷ xs) h = (h.0, up_more k xs h.1)
 
-pub all_up : (xs : List (Option ℕ)) → UpTo (length xs) xs → map is_up xs ≡ repeated (length xs) true
+pub all_up : (xs : List (Option ℕ)) → UpTo (length xs) xs → map is_up xs ≡ replicate (length xs) true
 all_up [] h = refl
 all_up (x ∷ xs) h = ap (λ (o : Option ℕ). is_up o ∷ map is_up xs) h.0 ∙ ap (λ (bs : List Bool). true ∷ bs) (all_up xs h.1)
 

@@ -1,21 +1,23 @@
-ghost use Rattle.std.specs.Prelude.{◌≡◌, ◌<◌, ◌≤◌, ◌^◌, true, IfOk, length, slice_set};
-ghost use Rattle.san_law.specs.State.{repeated};
-ghost use Rattle.san_seq.specs.Flags.{IsKey, SaysNext, is_up};
+//! A set of numbers, as flags: the least one that is in it is found fast.
 
+ghost use Rattle.std.specs.Prelude.{◌≡◌, ◌<◌, ◌≤◌, ◌^◌, true, IfOk, length, replicate, slice_set};
+ghost use Rattle.san_winner.specs.Flags.{IsKey, SaysNext, is_up};
+
+use crate::winners::Winners;
 use san_base::NoMemory;
-use san_winner::Winners;
 use std::alloc::Global;
 use std::marker::Model;
 
-/// A fixed number of flags, each of them up or down.
+/// A set of numbers below a bound, as a flag for each number, which is up where the number is in the
+/// set.
 #[derive(Debug, Drop)]
-pub(crate) struct Flags {
+pub struct Flags {
     keys: Winners,
 }
 
 impl Model for Flags {
     ghost use Rattle.std.specs.Prelude.{List, Bool, map};
-    ghost use Rattle.san_seq.specs.Flags.{AreKeys, is_up};
+    ghost use Rattle.san_winner.specs.Flags.{AreKeys, is_up};
 
     ghost Value = { List Bool };
 
@@ -32,10 +34,10 @@ fn key_of(up: bool) -> Option<u64>
 }
 
 impl Flags {
-    /// So many flags, all of them up.
-    pub(crate) fn open(alloc: Global, many: usize) -> Result<Flags, NoMemory>
+    /// `many` flags, all up.
+    pub fn open(alloc: Global, many: usize) -> Result<Flags, NoMemory>
         requires { many < 2 ^ 60 }
-        ensures { IfOk result (λ f. f ≡ repeated many true) }
+        ensures { IfOk result (λ f. f ≡ replicate many true) }
     {
         let mut keys = Winners::open(alloc, many)?;
         'flags: for at in 0..many {
@@ -45,7 +47,7 @@ impl Flags {
     }
 
     /// Puts a flag up, or takes it down.
-    pub(crate) fn set(&mut self, at: usize, up: bool)
+    pub fn set(&mut self, at: usize, up: bool)
         requires { at < length self.old }
         ensures { self.new ≡ slice_set self.old at up }
     {
@@ -53,7 +55,7 @@ impl Flags {
     }
 
     /// The first flag that is up, from one on.
-    pub(crate) fn next(&self, from: usize) -> Option<usize>
+    pub fn next(&self, from: usize) -> Option<usize>
         requires { from ≤ length self.now }
         ensures { SaysNext from self.now result }
     {

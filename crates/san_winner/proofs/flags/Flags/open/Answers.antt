@@ -1,9 +1,8 @@
-use Rattle.std.proofs.Common.{arith, ◌∙◌, ◌≡◌, ◌+◌, ◌≤◌, ap, sym, refl, subst, suc, length, true, ℕ, List, Option, Some}
+use Rattle.std.proofs.Common.{arith, ◌∙◌, ◌≡◌, ◌+◌, ◌≤◌, ap, sym, refl, subst, suc, length, replicate, true, ℕ, List, Option, Some}
 use Rattle.std.proofs.lemmas.List.{length-set}
-use Rattle.san_law.specs.State.{repeated}
-use Rattle.san_seq.specs.Flags.{AreKeys}
-use Rattle.san_seq.proofs.FlagLemmas.{UpTo, all_up, keys_none, keys_set, long_none, up_enough, up_more}
-use Rattle.san_seq.proofs.flags.Flags.open.Goals as goal
+use Rattle.san_winner.specs.Flags.{AreKeys}
+use Rattle.san_winner.proofs.FlagLemmas.{UpTo, all_up, keys_none, keys_set, long_none, up_enough, up_more}
+use Rattle.san_winner.proofs.flags.Flags.open.Goals as goal
 
 pub flags-init : goal.flags-init
 flags-init c = record {
@@ -25,4 +24,4 @@ flags-preserved c =
 pub returns : goal.returns
 returns c =
     let all : length c.flags.keys ≤ c.flags.at = omega (arith, c.flags-test.false, c.flags.invariant.sized) in
-    all_up c.flags.keys (up_enough c.flags.at c.flags.keys all c.flags.invariant.up) ∙ ap (λ (n : ℕ). repeated n true) c.flags.invariant.sized
+    all_up c.flags.keys (up_enough c.flags.at c.flags.keys all c.flags.invariant.up) ∙ ap (λ (n : ℕ). replicate n true) c.flags.invariant.sized
