@@ -1,6 +1,5 @@
 pub mod LeafViewLemmas
 pub mod NextLemmas
-pub mod PartLemmas
 pub mod ValuesLemmas
 pub mod CompletionLemmas
 pub mod AskingLemmas

@@ -2,7 +2,7 @@ use Rattle.std.proofs.Common.{◌≡◌, map, drop}
 use Rattle.san_law.specs.Clocks.{same_list}
 use Rattle.san_law.specs.State.{gather}
 use Rattle.san_net.specs.Laid.{place_of}
-use Rattle.san_seq.proofs.leaf_renewal.same_values.Given as goal
+use Rattle.san_net.proofs.cells.same_values.Given as goal
 
 abbrev pub invariant-cells : goal.invariant-cells
 invariant-cells l = record {

@@ -13,7 +13,7 @@ use Rattle.san_net.specs.Network.{Network, net_of, network_in}
 use Rattle.san_net.specs.declared.part.Part.{Part}
 use Rattle.san_net.specs.declared.part.Slot.{Slot}
 use Rattle.san_net.specs.declared.part.Slot.TheVariants.{Private, Shared}
-use Rattle.san_seq.specs.Views.{IsOver}
+use Rattle.san_net.specs.Cells.{IsOver}
 
 slots_in : (ss : List Slot) → map law_place (map slot_in ss) ≡ map place_of ss
 slots_in [] = refl

@@ -1,3 +1,5 @@
+//! Worked examples, computed by the definitions.
+
 ghost use Rattle.std.specs.Prelude.{◌≡◌, pos, negsuc, nat_eq, Some, None, [], ◌∷◌};
 ghost use Rattle.san_law.specs.Activity as leaf;
 ghost use Rattle.san_law.specs.Examples.{event_at, ran, run_of, tick_at, worth_of};
@@ -14,7 +16,7 @@ ghost use Rattle.san_net.specs.Tables.{importers_of, leaves_of_acts};
 
 /// Two leaves that share a place are a network.
 #[tactic(auto, using(crate::proofs::Computed::is_network, crate::proofs::Computed::places, crate::proofs::Computed::shared_places, crate::proofs::Computed::numbered, crate::proofs::Computed::leaves_of_shared, crate::proofs::Computed::leaves_of_private, crate::proofs::Computed::activities))]
-pub fn two_leaves_are_a_network()
+pub fn example_network()
     ensures is_network { IsNetwork put_and_get }
     ensures places { all_places put_and_get.parts ≡ 0 ∷ 1 ∷ 2 ∷ 0 ∷ [] }
     ensures shared_places { repeated nat_eq (all_places put_and_get.parts) ≡ 0 ∷ [] }
@@ -26,7 +28,7 @@ pub fn two_leaves_are_a_network()
 
 /// What small leaves do on their own values.
 #[tactic(auto, using(crate::proofs::Computed::too_few_tokens, crate::proofs::Computed::enough_tokens, crate::proofs::Computed::order, crate::proofs::Computed::nothing_first, crate::proofs::Computed::lesser_first, crate::proofs::Computed::greater_first, crate::proofs::Computed::activated, crate::proofs::Computed::dropped, crate::proofs::Computed::kept))]
-pub fn small_leaves()
+pub fn example_leaves()
     ensures too_few_tokens { enabled_in (taking 0 1 2 0) (0 ∷ 1 ∷ []) ≡ leaf.No }
     ensures enough_tokens { enabled_in (taking 0 1 2 0) (0 ∷ 2 ∷ []) ≡ leaf.Yes }
     ensures order { instants_of four_activities ≡ 2 ∷ 0 ∷ 3 ∷ [] }
@@ -43,7 +45,7 @@ pub fn small_leaves()
 /// A timer with a pair: activated with and without the activation predicate, then activated anew,
 /// or kept where the reactivation predicate or the activation predicate didn't hold.
 #[tactic(auto, using(crate::proofs::Reacted::activated_held, crate::proofs::Reacted::activated_bare, crate::proofs::Reacted::activated_anew, crate::proofs::Reacted::kept_without_reactivation, crate::proofs::Reacted::kept_without_activation))]
-pub fn a_small_pair()
+pub fn example_pair()
     ensures activated_held { renewed_reacting 1 0 (None ∷ [])
         ≡ net.Fresh (row_with (Some (held_timer 12) ∷ []) 1) }
     ensures activated_bare { renewed_reacting 0 1 (None ∷ [])
@@ -58,13 +60,13 @@ pub fn a_small_pair()
 
 /// The run of the two leaves: the token that one puts is what the other gets.
 #[tactic(auto, using(crate::proofs::Computed::put_then_got))]
-pub fn a_small_run()
+pub fn example_run()
     ensures { run_of net_to_five ≡ ran (event_at 2 0 0 ∷ event_at 2 1 0 ∷ []) 5 End }
 {}
 
 /// Rewards of a small run: a sum, a mean, one at a tick, and an interval beyond the horizon.
 #[tactic(auto, using(crate::proofs::Counted::three_ticks, crate::proofs::Counted::sum_and_impulses, crate::proofs::Counted::mean_of_ten, crate::proofs::Counted::one_tick, crate::proofs::Counted::beyond_the_horizon))]
-pub fn small_rewards()
+pub fn example_rewards()
     ensures three_ticks { run_of (counting_to 10)
         ≡ ran (tick_at 3 ∷ tick_at 6 ∷ tick_at 9 ∷ []) 10 End }
     ensures sum_and_impulses { worth_of (counting_to 10) 0 (run_of (counting_to 10))
