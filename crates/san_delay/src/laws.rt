@@ -1,3 +1,5 @@
+//! Laws: geometric delays end, and the longest delay is reached.
+
 ghost use Rattle.std.specs.Prelude.{◌≡◌, ◌+◌, ◌<◌, ◌≤◌, ℕ, List};
 ghost use Rattle.san_expr.specs.Delay.{chance_left, delay_of, geometric};
 ghost use Rattle.san_expr.specs.declared.dist.Dist.{Dist};

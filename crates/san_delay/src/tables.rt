@@ -1,3 +1,5 @@
+//! Geometric delays by tables that are kept, so that a draw searches in place of counting.
+
 ghost use Rattle.std.specs.Prelude.{◌≡◌, ◌≤◌, IfOk, IfSome, IsTrue};
 ghost use Rattle.san_delay.specs.Sound.{IsChance, IsDelay, IsSound};
 ghost use Rattle.san_expr.specs.Below.{dist_below};
@@ -5,28 +7,29 @@ ghost use Rattle.san_expr.specs.Delay.{delay_of, geometric};
 ghost use Rattle.san_expr.specs.Meets.{Evaluates};
 
 use crate::delays::delay;
-use crate::kept::Series;
-use crate::series::geometric;
+use crate::geometric;
+use crate::geometric::{GeometricTable, MAX_PARTS};
 use san_base::{NoMemory, Trap};
 use san_expr::{Dist, Marked};
 use std::alloc::Global;
 
-/// The room of all series together, in chances of 8 bytes each.
+/// The room of all tables together, in chances of 8 bytes each.
 const ROOM: usize = 3_400_000;
 
-/// What a series takes beside its chances, in chances.
+/// What a table takes beside its chances, in chances.
 const HEAD: usize = 16;
 
-/// The pairs p, q with p from 1 to q and q up to 1000.
+/// The pairs p, q with p from 1 to q and q up to `MAX_PARTS`.
 const PAIRS: usize = 500_500;
 
-/// The series of geometric distributions, kept so that a draw searches in place of counting. They
-/// take at most 32 MB: a series that finds no room is counted anew at each draw.
+/// The tables of geometric distributions. They take at most 32 MB: a delay whose table finds no room
+/// is counted anew at each draw.
 #[derive(Debug, Drop)]
 pub struct DelayTables {
-    series: Vec<Series>,
-    /// Of each pair the number of its series, as far as it has one.
-    numbers: Vec<usize>,
+    tables: Vec<GeometricTable>,
+    /// The index of a pair's table stands in its slot, the first from the pair's own on that is its
+    /// or free.
+    index: Vec<u32>,
 }
 
 /// The number of a pair.
@@ -39,11 +42,11 @@ fn pair(p: u32, q: u32) -> usize
 fn is_chance(p: u32, q: u32) -> bool
     ensures { IsTrue result → IsChance p q }
 {
-    1 <= p && p <= q && q <= 1000
+    1 <= p && p <= q && q <= MAX_PARTS
 }
 
 impl DelayTables {
-    /// Keeps the series of these distributions, in their order, as far as there is room.
+    /// Keeps the tables of these distributions, in their order, as far as there is room.
     pub fn open(alloc: Global, dists: &[&Dist]) -> Result<DelayTables, NoMemory> {
         DelayTables::within(alloc, dists, ROOM)
     }
@@ -54,52 +57,80 @@ impl DelayTables {
         dists: &[&Dist],
         room: usize,
     ) -> Result<DelayTables, NoMemory> {
-        let mut numbers = Vec::with_capacity(alloc, PAIRS)?;
-        'pairs: for _ in 0..PAIRS {
-            numbers.push(usize::MAX)?;
+        let slots = 2 * dists.len().min(PAIRS) + 1;
+        let mut index = Vec::with_capacity(alloc, slots)?;
+        'slots: for _ in 0..slots {
+            index.push(u32::MAX)?;
         }
-        let mut tables = DelayTables {
-            series: Vec::new(alloc),
-            numbers,
+        let mut kept = DelayTables {
+            tables: Vec::new(alloc),
+            index,
         };
         let mut room = room;
         'dists: for d in dists {
             if let Dist::Geom(p, q) = d {
                 if is_chance(*p, *q) {
-                    room = tables.keep(alloc, *p, *q, room)?;
+                    room = kept.keep(alloc, *p, *q, room)?;
                 }
             }
         }
-        Ok(tables)
+        Ok(kept)
     }
 
-    /// Keeps the series of a pair where it isn't kept yet and finds room; answers the room left.
+    /// Keeps the table of a pair where it isn't kept yet and finds room; answers the room left.
     fn keep(&mut self, alloc: Global, p: u32, q: u32, room: usize) -> Result<usize, NoMemory>
         requires { IsChance p q }
     {
         if self.find(p, q).is_some() {
             return Ok(room);
         }
-        let ticks = geometric(p, q, 0) as usize;
+        let ticks = geometric::longest(p, q) as usize;
         if ticks + HEAD > room {
             return Ok(room);
         }
-        let number = self.series.len();
-        self.series.push(Series::new(alloc, p, q, ticks)?)?;
-        if let Some(at) = self.numbers.get_mut(pair(p, q)) {
+        let Ok(number) = u32::try_from(self.tables.len()) else {
+            return Ok(room);
+        };
+        let slot = self.slot(p, q);
+        self.tables.push(GeometricTable::new(alloc, p, q, ticks)?)?;
+        if let Some(at) = self.index.get_mut(slot) {
             *at = number;
         }
         Ok(room - (ticks + HEAD))
     }
 
-    fn find(&self, p: u32, q: u32) -> Option<&Series>
+    /// The slot of a pair: that of its table, or else the first that is free.
+    fn slot(&self, p: u32, q: u32) -> usize
+        requires { IsChance p q }
+    {
+        let slots = self.index.len();
+        if slots == 0 {
+            return 0;
+        }
+        let mut at = pair(p, q) % slots;
+        'slots: for _ in 0..slots {
+            let Some(number) = self.index.get(at) else {
+                return at;
+            };
+            let Some(table) = self.tables.get(*number as usize) else {
+                return at;
+            };
+            if (table.p, table.q) == (p, q) {
+                return at;
+            }
+            at = at.wrapping_add(1) % slots;
+        }
+        at
+    }
+
+    fn find(&self, p: u32, q: u32) -> Option<&GeometricTable>
         requires { IsChance p q }
         ensures { IfSome result (λ s. (s.now.p ≡ p) × (s.now.q ≡ q)) }
     {
-        let number = *self.numbers.get(pair(p, q))?;
-        let series = self.series.get(number)?;
-        if series.p == p && series.q == q {
-            Some(series)
+        let number = *self.index.get(self.slot(p, q))?;
+        let table = self.tables.get(number as usize)?;
+        if table.p == p && table.q == q {
+            Some(table)
         } else {
             None
         }
@@ -111,8 +142,8 @@ impl DelayTables {
         ensures within { IsDelay result }
     {
         match self.find(p, q) {
-            Some(series) => series.geometric(u),
-            None => geometric(p, q, u),
+            Some(table) => table.delay(u),
+            None => geometric::delay(p, q, u),
         }
     }
 

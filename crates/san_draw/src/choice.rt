@@ -1,5 +1,6 @@
-ghost use Rattle.std.specs.Prelude.{◌≡◌, ◌+◌, ◌<◌, ◌≤◌, ◌^◌, ℕ, length, sum};
-ghost use Rattle.san_base.specs.Draws.{pick, weighted_choice};
+//! The choice of a number below another by a draw.
+ghost use Rattle.std.specs.Prelude.{◌≡◌, ◌<◌, ◌≤◌, ◌^◌, ℕ};
+ghost use Rattle.san_base.specs.Draws.{pick};
 
 /// A number below w, by the high half of a product.
 pub fn pick(u: u64, w: u64) -> u64
@@ -9,24 +10,6 @@ pub fn pick(u: u64, w: u64) -> u64
 {
     let product = u128::from(u) * u128::from(w);
     (product >> 64) as u64
-}
-
-/// The first entry whose cumulative weight exceeds the number that is picked below their sum.
-pub fn choose(weights: &[u64], u: u64) -> usize
-    requires { (1 ≤ sum weights.now) × (sum weights.now ≤ 2 ^ 32) }
-    ensures value { result ≡ weighted_choice u weights.now }
-    ensures within { result < length weights.now }
-{
-    let total: u64 = weights.iter().sum();
-    let picked = pick(u, total);
-    let mut before = 0;
-    for at in 0..weights.len() {
-        before += weights[at];
-        if picked < before {
-            return at;
-        }
-    }
-    unreachable!()
 }
 
 /// Each number below w is picked by some draw.

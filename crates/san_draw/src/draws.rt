@@ -1,3 +1,4 @@
+//! The draws of a seed in any order, from one ChaCha20 generator.
 ghost use Rattle.std.specs.Prelude.{◌≡◌, ◌+◌, ◌*◌, ◌<◌, ◌^◌};
 ghost use Rattle.rand_chacha.specs.ChaCha.{key_of, word_at};
 ghost use Rattle.san_draw.specs.Key.{draw_of, key_bytes};
@@ -52,6 +53,7 @@ impl Model for Draws {
 }
 
 impl Draws {
+    /// The draws of a seed.
     pub fn new(seed: u64) -> Draws
         ensures { result ≡ seed }
     {

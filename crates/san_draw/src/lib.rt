@@ -3,8 +3,10 @@
 
 mod choice;
 mod draws;
+mod source;
 mod streams;
 
-pub use choice::{choose, every_number_is_picked, pick};
+pub use choice::{every_number_is_picked, pick};
 pub use draws::Draws;
+pub use source::DrawSource;
 pub use streams::Streams;

@@ -1,3 +1,4 @@
+//! The draws of a seed with a generator for each stream, for draws in turn.
 ghost use Rattle.std.specs.Prelude.{◌≡◌, ◌<◌, ◌≤◌, ◌^◌, IfOk};
 ghost use Rattle.san_draw.specs.Key.{draw_of};
 

@@ -1,8 +1,9 @@
 -- Which cells evaluations have to do with.
-use Rattle.std.proofs.Common.{ℕ, zero, suc, ◌+◌, ◌^◌, ◌≤◌, ◌<◌, ◌≡◌, ◌∙◌, ap, sym, refl, subst, arith, Bool, true, false, not, cond, ◌&&◌, ◌||◌, ◌⊎◌, inl, inr, IsTrue, nat_eq, nat_lt, nat_le, Result, Ok, Err, ℤ, pos, negsuc, List, [], ◌∷◌, map, length}
+use Rattle.std.proofs.Common.{ℕ, zero, suc, ◌+◌, ◌≤◌, ◌<◌, ◌≡◌, ◌∙◌, ap, sym, refl, subst, arith, Bool, true, false, not, cond, ◌&&◌, ◌||◌, ◌⊎◌, inl, inr, IsTrue, nat_eq, nat_lt, nat_le, Result, Ok, Err, ℤ, pos, negsuc, List, [], ◌∷◌, map, length}
 use Rattle.std.specs.Prelude.{slice_index, slice_set}
-use Rattle.std.proofs.lemmas.Bool.{ltb-true, lt-ltb, le-leb}
+use Rattle.std.proofs.lemmas.Bool.{leb-true, ltb-true, lt-ltb, le-leb}
 use Rattle.std.proofs.lemmas.Bool.Decides.{eqb_tells}
+use Rattle.san_base.specs.declared.limits.TheConstants.{MAX_TOKENS}
 use Rattle.san_base.specs.declared.op.Op.{Op}
 use Rattle.san_base.specs.declared.ending.Trap.{Trap}
 use Rattle.san_base.specs.declared.ending.Trap.TheVariants.{Marking, Index}
@@ -85,7 +86,7 @@ set_other (x ∷ m) zero v (suc q) apart = refl
 set_other (x ∷ m) (suc p) v zero apart = refl
 set_other (x ∷ m) (suc p) v (suc q) apart = set_other m p v q (λ e. apart (ap suc e))
 
-set_small : (m : List ℕ) (p v q : ℕ) → v ≤ 2147483647 → slice_index m q ≤ 2147483647 → slice_index (slice_set m p v) q ≤ 2147483647
+set_small : (m : List ℕ) (p v q : ℕ) → v ≤ MAX_TOKENS → slice_index m q ≤ MAX_TOKENS → slice_index (slice_set m p v) q ≤ MAX_TOKENS
 set_small [] p v q h k = k
 set_small (x ∷ m) zero v zero h k = h
 set_small (x ∷ m) zero v (suc q) h k = k
@@ -113,7 +114,7 @@ module _ (cells : CellSet) where
     marking = λ m h. h;
   }
 
-  pub concerns_put_at : (p v : ℕ) → IsTrue (cells p) → v ≤ 2147483647 → Concerns cells (put_at p v)
+  pub concerns_put_at : (p v : ℕ) → IsTrue (cells p) → v ≤ MAX_TOKENS → Concerns cells (put_at p v)
   concerns_put_at p v within few = record {
     looks = λ m q h. absurd cc;
     sets = λ m q h. subst (λ (n : ℕ). IsTrue (cells n)) (sym (is_cell q p h)) within;
@@ -200,10 +201,10 @@ module _ (cells : CellSet) where
 
   pub concerns_assign : (p : ℕ) (x : ℤ) → IsTrue (cells p) → Concerns cells (assign_at p x)
   concerns_assign p (negsuc n) within = concerns_settled (Err Marking)
-  concerns_assign p (pos n) within = by_test (nat_lt n (2 ^ 31)) refl
+  concerns_assign p (pos n) within = by_test (nat_le n MAX_TOKENS) refl
     where
-      by_test : (b : Bool) → nat_lt n (2 ^ 31) ≡ b → Concerns cells (then_do (settled (cond b (Ok n) (Err Marking))) (put_at p))
-      by_test true t = let below : n < 2 ^ 31 = ltb-true n (2 ^ 31) t in concerns_put_at p n within (omega arith)
+      by_test : (b : Bool) → nat_le n MAX_TOKENS ≡ b → Concerns cells (then_do (settled (cond b (Ok n) (Err Marking))) (put_at p))
+      by_test true t = concerns_put_at p n within (leb-true n MAX_TOKENS t)
       by_test false t = concerns_settled (Err Marking)
 
   concerns_rest : (op : Op) (right : Meaning ℤ) (x : ℤ) → Concerns cells right → Concerns cells (rest_of op right x)

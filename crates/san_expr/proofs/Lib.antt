@@ -1,5 +1,4 @@
 pub mod ConcernLemmas
-pub mod SameLemmas
 pub mod ViewLemmas
 pub mod ComposeLemmas
 pub mod EvalLemmas

@@ -1,5 +1,6 @@
 -- Which cells an evaluation has to do with.
 use Rattle.std.specs.Prelude.{ℕ, ◌≡◌, ◌≤◌, false, IsTrue, List, length, slice_index}
+use Rattle.san_base.specs.declared.limits.TheConstants.{MAX_TOKENS}
 use Rattle.san_expr.specs.Meaning.{Outcome, Meaning}
 use Rattle.san_expr.specs.Mentions.{CellSet}
 
@@ -18,9 +19,9 @@ pub record AreAlike {T : Type 0} (cells : CellSet) (a b : Outcome T) : Type 0 wh
   pub sets : (p : ℕ) → a.sets p ≡ b.sets p
   pub left : AreEqualOn cells a.left b.left
 
--- each cell has a number from 0 to 2147483647
+-- each cell has a number from 0 to `MAX_TOKENS`
 abbrev pub IsMarking : List ℕ → Type 0
-IsMarking m = (p : ℕ) → slice_index m p ≤ 2147483647
+IsMarking m = (p : ℕ) → slice_index m p ≤ MAX_TOKENS
 
 -- no other cell is looked at or assigned, and two markings that are equal on these cells give one outcome; what isn't
 -- assigned stays, and a marking stays one

@@ -1,5 +1,6 @@
 -- The delay of a distribution for a draw and a marking, or the trap that ends it.
 use Rattle.std.specs.Prelude.{ℕ, zero, suc, ◌+◌, ◌-◌, ◌*◌, ◌/◌, ◌^◌, nat_le, Bool, ◌&&◌, map, slice_index, Result, Ok, Err, ℤ, pos, negsuc, if◌then◌else◌}
+use Rattle.san_base.specs.declared.limits.TheConstants.{MAX_DELAY}
 use Rattle.san_base.specs.declared.ending.Trap.{Trap}
 use Rattle.san_base.specs.declared.ending.Trap.TheVariants as trap
 use Rattle.san_base.specs.Draws.{pick, weighted_choice}
@@ -13,7 +14,7 @@ Ticks = Result ℕ Trap
 
 -- a number that a delay can be
 abbrev pub ticks_of : ℤ → Ticks
-ticks_of (pos n) = if nat_le 1 n && nat_le n 4294967296 then Ok n else Err trap.Delay
+ticks_of (pos n) = if nat_le 1 n && nat_le n MAX_DELAY then Ok n else Err trap.Delay
 ticks_of (negsuc n) = Err trap.Delay
 
 -- the number that a draw gives between two bounds

@@ -1,5 +1,6 @@
 -- What statements make of a marking, or the trap that ends them.
-use Rattle.std.specs.Prelude.{ℕ, ◌^◌, nat_lt, Result, Ok, Err, if◌then◌else◌, ℤ, pos, negsuc, List, [], ◌∷◌, map}
+use Rattle.std.specs.Prelude.{ℕ, nat_le, Result, Ok, Err, if◌then◌else◌, ℤ, pos, negsuc, List, [], ◌∷◌, map}
+use Rattle.san_base.specs.declared.limits.TheConstants.{MAX_TOKENS}
 use Rattle.san_base.specs.declared.ending.Trap.{Trap}
 use Rattle.san_base.specs.declared.ending.Trap.TheVariants.{Marking}
 use Rattle.san_expr.specs.Meaning.{Meaning, settled, put_at, then_do}
@@ -13,7 +14,7 @@ Acts = Meaning (Unit {0})
 
 -- a number that a cell can have
 abbrev pub count_of : ℤ → Result ℕ Trap
-count_of (pos n) = if nat_lt n (2 ^ 31) then Ok n else Err Marking
+count_of (pos n) = if nat_le n MAX_TOKENS then Ok n else Err Marking
 count_of (negsuc n) = Err Marking
 
 abbrev pub assign_at : ℕ → ℤ → Acts

@@ -1,5 +1,6 @@
 -- What a view shows of a marking, and what a read and an assignment do to it.
 use Rattle.std.specs.Prelude.{ℕ, suc, ◌≡◌, ◌<◌, ◌≤◌, nat_eq, List, [], ◌∷◌, length, slice_index, slice_get, Option, Some, None, Bool, true, false, IsTrue, if◌then◌else◌}
+use Rattle.san_base.specs.declared.limits.TheConstants.{MAX_TOKENS}
 
 -- a finite map from cells to numbers
 abbrev pub Known : Type 0
@@ -51,7 +52,7 @@ IsBehind (x ∷ xs) p v = slice_index (x ∷ xs) p ≡ v
 
 -- what a value that is read for the first time is
 abbrev pub IsSeen : List ℕ → ℕ → ℕ → Type 0
-IsSeen behind p v = (v ≤ 2147483647) × IsBehind behind p v
+IsSeen behind p v = (v ≤ MAX_TOKENS) × IsBehind behind p v
 
 -- what a read answers, by the own value and the first one, and what it leaves
 abbrev pub Answers : Option ℕ → Option ℕ → Sight → Sight → ℕ → ℕ → Type 0

@@ -1,3 +1,4 @@
+//! Whether every cell of an expression, a statement or a distribution is below a number.
 ghost use Rattle.std.specs.Prelude.{◌≡◌};
 ghost use Rattle.san_expr.specs.Below.{array_below, places_below, stmt_below, stmts_below, dist_below};
 

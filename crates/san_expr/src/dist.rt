@@ -1,6 +1,6 @@
-ghost use Rattle.std.specs.Prelude.{◌≡◌, ◌↔◌, IsTrue};
-
+//! Distributions of delays.
 use crate::expr::Expr;
+use san_base::Same;
 use sqlite_items::Items;
 
 /// How the delay of a timed activity is drawn, in ticks.
@@ -15,16 +15,13 @@ pub enum Dist {
     Table(Items<(u64, u64)>),
 }
 
-impl Dist {
-    /// Whether two distributions are equal node by node.
-    pub fn same(&self, other: &Dist) -> bool
-        ensures { IsTrue result ↔ (self.now ≡ other.now) }
-    {
+impl Same for Dist {
+    fn same(&self, other: &Dist) -> bool {
         match (self, other) {
             (Dist::Det(x), Dist::Det(y)) => x.same(y),
             (Dist::Uniform(x, z), Dist::Uniform(y, w)) => x.same(y) && z.same(w),
             (Dist::Geom(p, q), Dist::Geom(r, s)) => p == r && q == s,
-            (Dist::Table(x), Dist::Table(y)) => x.as_slice() == y.as_slice(),
+            (Dist::Table(x), Dist::Table(y)) => x.same(y),
             _ => false,
         }
     }

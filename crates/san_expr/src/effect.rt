@@ -1,3 +1,4 @@
+//! What statements make of a marking.
 ghost use Rattle.std.specs.Prelude.{◌≡◌, ◌<◌, ℕ, IsTrue};
 ghost use Rattle.san_expr.specs.Below.{array_below, places_below, stmt_below, stmts_below};
 ghost use Rattle.san_expr.specs.Effect.{count_of, assign_at, effect_of, effects_of};
@@ -9,13 +10,13 @@ use crate::expr::Expr;
 use crate::stmt::Stmt;
 use crate::value::{cell_of, eval, holds};
 use crate::view::Cells;
-use san_base::Trap;
+use san_base::{MAX_TOKENS, Trap};
 
 /// The number of tokens that a value is, or `Trap::Marking` where a place can't have so many.
 pub fn count_of(x: i64) -> Result<u32, Trap>
     ensures { result ≡ count_of x }
 {
-    if 0 <= x && x < 1 << 31 {
+    if 0 <= x && x <= i64::from(MAX_TOKENS) {
         Ok(x as u32)
     } else {
         Err(Trap::Marking)
@@ -26,13 +27,9 @@ fn assign<V: Cells>(place: u32, x: i64, view: &mut V) -> Result<(), Trap>
     requires { place < (V.sight view.old).places }
     ensures { Meets (V.sight view.old) (V.sight view.new) (assign_at place x) result }
 {
-    match count_of(x) {
-        Ok(count) => {
-            view.set(place, count);
-            Ok(())
-        }
-        Err(trap) => Err(trap),
-    }
+    let count = count_of(x)?;
+    view.set(place, count);
+    Ok(())
 }
 
 fn assign_value<V: Cells>(place: u32, e: &Expr, view: &mut V) -> Result<(), Trap>
@@ -40,10 +37,8 @@ fn assign_value<V: Cells>(place: u32, e: &Expr, view: &mut V) -> Result<(), Trap
     requires value { IsTrue (places_below e.now (V.sight view.old).places) }
     ensures { Meets (V.sight view.old) (V.sight view.new) (then_do (value_of e.now) (assign_at place)) result }
 {
-    match eval(e, view) {
-        Ok(x) => assign(place, x, view),
-        Err(trap) => Err(trap),
-    }
+    let x = eval(e, view)?;
+    assign(place, x, view)
 }
 
 /// Assigns an element of an array, by its index.
@@ -58,10 +53,8 @@ fn assign_cell<V: Cells>(
     requires value { IsTrue (places_below e.now (V.sight view.old).places) }
     ensures { Meets (V.sight view.old) (V.sight view.new) (then_do (settled (cell_of first length index)) (λ p. then_do (value_of e.now) (assign_at p))) result }
 {
-    match cell_of(first, length, index) {
-        Ok(place) => assign_value(place, e, view),
-        Err(trap) => Err(trap),
-    }
+    let place = cell_of(first, length, index)?;
+    assign_value(place, e, view)
 }
 
 /// The effect of statements, in order; after a trap the view holds the assignments made before it.
@@ -71,10 +64,7 @@ pub fn run_stmts<V: Cells>(body: &[Stmt], view: &mut V) -> Result<(), Trap>
     ensures { Meets (V.sight view.old) (V.sight view.new) (effects_of body.now) result }
 {
     for stmt in body {
-        match run_stmt(stmt, view) {
-            Ok(()) => {}
-            Err(trap) => return Err(trap),
-        }
+        run_stmt(stmt, view)?;
     }
     Ok(())
 }
@@ -86,19 +76,17 @@ fn run_stmt<V: Cells>(stmt: &Stmt, view: &mut V) -> Result<(), Trap>
 {
     match stmt {
         Stmt::Set(place, e) => assign_value(*place, e, view),
-        Stmt::SetCell(first, length, index, e) => match eval(index, view) {
-            Ok(x) => assign_cell(*first, *length, x, e, view),
-            Err(trap) => Err(trap),
-        },
-        Stmt::If(e, then_body, else_body) => match eval(e, view) {
-            Ok(x) => {
-                if holds(x) {
-                    run_stmts(then_body.as_slice(), view)
-                } else {
-                    run_stmts(else_body.as_slice(), view)
-                }
+        Stmt::SetCell(first, length, index, e) => {
+            let at = eval(index, view)?;
+            assign_cell(*first, *length, at, e, view)
+        }
+        Stmt::If(e, then_body, else_body) => {
+            let x = eval(e, view)?;
+            if holds(x) {
+                run_stmts(then_body.as_slice(), view)
+            } else {
+                run_stmts(else_body.as_slice(), view)
             }
-            Err(trap) => Err(trap),
-        },
+        }
     }
 }

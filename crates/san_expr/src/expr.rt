@@ -1,6 +1,7 @@
+//! Expressions over the cells of an atomic.
 ghost use Rattle.std.specs.Prelude.{◌≡◌, ◌↔◌, IsTrue};
 
-use san_base::Op;
+use san_base::{Op, Same};
 use sqlite_items::Boxed;
 
 /// An expression over the cells of one atomic, which are numbered from 0. A cell is a place, or one
@@ -32,5 +33,11 @@ impl Expr {
             }
             _ => false,
         }
+    }
+}
+
+impl Same for Expr {
+    fn same(&self, other: &Expr) -> bool {
+        Expr::same(self, other)
     }
 }

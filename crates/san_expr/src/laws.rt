@@ -1,3 +1,4 @@
+//! Laws: which cells an evaluation has to do with, and what the view of a whole marking is.
 ghost use Rattle.std.specs.Prelude.{◌≡◌, ℕ, ℤ, List, Result, length};
 ghost use Rattle.san_base.specs.declared.ending.Trap.{Trap};
 ghost use Rattle.san_expr.specs.Concerns.{Concerns, AssignsNothing};

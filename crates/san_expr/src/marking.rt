@@ -1,3 +1,4 @@
+//! The plain view: a whole marking.
 ghost use Rattle.std.specs.Prelude.{◌≡◌, ◌<◌, ◌≤◌, length};
 ghost use Rattle.san_expr.specs.View.{Sight, Reads, assigned, plain};
 
@@ -20,12 +21,14 @@ impl Model for Marking {
 }
 
 impl Marking {
+    /// A marking of these values, one for each cell.
     pub fn new(values: Vec<u32>) -> Marking
         ensures { result ≡ values.items }
     {
         Marking { values }
     }
 
+    /// The values.
     pub fn as_slice(&self) -> &[u32]
         ensures { result.now ≡ self.now }
     {

@@ -1,3 +1,4 @@
+//! Whether an expression, a statement or a distribution names a cell.
 ghost use Rattle.std.specs.Prelude.{◌≡◌, ℕ};
 ghost use Rattle.san_expr.specs.Mentions.{array_cells, mentions, stmt_mentions, stmts_mention, dist_mentions};
 

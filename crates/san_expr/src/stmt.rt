@@ -1,6 +1,8 @@
+//! Statements of gates.
 ghost use Rattle.std.specs.Prelude.{◌≡◌, ◌↔◌, IsTrue};
 
 use crate::expr::Expr;
+use san_base::Same;
 use sqlite_items::Items;
 
 /// A statement of a gate.
@@ -47,4 +49,10 @@ pub fn same_stmts(a: &[Stmt], b: &[Stmt]) -> bool
         }
     }
     true
+}
+
+impl Same for Stmt {
+    fn same(&self, other: &Stmt) -> bool {
+        Stmt::same(self, other)
+    }
 }

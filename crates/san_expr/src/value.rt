@@ -1,3 +1,4 @@
+//! The value of an expression.
 ghost use Rattle.std.specs.Prelude.{◌≡◌, ◌+◌, ◌<◌, ◌^◌, ◌≤◌, neg_ℤ, not, Ok, ℤ, ℕ, IsTrue};
 ghost use Rattle.san_expr.specs.Value.{applied, is_decided, is_zero, truth, fitting, cell_of, value_of};
 ghost use Rattle.san_expr.specs.Below.{array_below, places_below};
@@ -76,13 +77,12 @@ fn read_at<V: Marked>(first: u32, length: u32, index: i64, view: &mut V) -> Resu
     requires { IsTrue (array_below first length (V.sight view.old).places) }
     ensures { Evaluates (V.sight view.old) (V.sight view.new) (then_do (settled (cell_of first length index)) value_at) result }
 {
-    match cell_of(first, length, index) {
-        Ok(place) => Ok(i64::from(view.read(place))),
-        Err(trap) => Err(trap),
-    }
+    let place = cell_of(first, length, index)?;
+    Ok(i64::from(view.read(place)))
 }
 
-/// The value of an expression.
+/// The value of an expression. `Trap::Arith` comes from a value outside of 64 bits and from a zero
+/// divisor, `Trap::Index` from an index outside of its array.
 pub fn eval<V: Marked>(e: &Expr, view: &mut V) -> Result<i64, Trap>
     requires { IsTrue (places_below e.now (V.sight view.old).places) }
     ensures { Evaluates (V.sight view.old) (V.sight view.new) (value_of e.now) result }
@@ -90,30 +90,20 @@ pub fn eval<V: Marked>(e: &Expr, view: &mut V) -> Result<i64, Trap>
     match e {
         Expr::Number(n) => Ok(*n),
         Expr::Place(place) => Ok(i64::from(view.read(*place))),
-        Expr::Cell(first, length, index) => match eval(index.get(), view) {
-            Ok(x) => read_at(*first, *length, x, view),
-            Err(trap) => Err(trap),
-        },
-        Expr::Neg(inner) => match eval(inner.get(), view) {
-            Ok(x) => negate(x),
-            Err(trap) => Err(trap),
-        },
-        Expr::Not(inner) => match eval(inner.get(), view) {
-            Ok(x) => Ok(truth_of(x == 0)),
-            Err(trap) => Err(trap),
-        },
-        Expr::Binary(op, left, right) => match eval(left.get(), view) {
-            Ok(x) => {
-                if is_decided(*op, x) {
-                    Ok(truth_of(holds(x)))
-                } else {
-                    match eval(right.get(), view) {
-                        Ok(y) => apply(*op, x, y),
-                        Err(trap) => Err(trap),
-                    }
-                }
+        Expr::Cell(first, length, index) => {
+            let at = eval(index.get(), view)?;
+            read_at(*first, *length, at, view)
+        }
+        Expr::Neg(inner) => negate(eval(inner.get(), view)?),
+        Expr::Not(inner) => Ok(truth_of(eval(inner.get(), view)? == 0)),
+        Expr::Binary(op, left, right) => {
+            let x = eval(left.get(), view)?;
+            if is_decided(*op, x) {
+                Ok(truth_of(holds(x)))
+            } else {
+                let y = eval(right.get(), view)?;
+                apply(*op, x, y)
             }
-            Err(trap) => Err(trap),
-        },
+        }
     }
 }

@@ -1,5 +1,8 @@
+//! Views of a marking: what can be read and assigned.
 ghost use Rattle.std.specs.Prelude.{◌≡◌, ◌<◌, ◌≤◌};
 ghost use Rattle.san_expr.specs.View.{Sight, Reads, assigned};
+
+use san_base::MAX_TOKENS;
 
 /// A view of a marking: a number for each cell. Reading may note what was read.
 pub trait Marked {
@@ -16,6 +19,6 @@ pub trait Cells: Marked {
     /// The cell's own value from now on.
     fn set(&mut self, place: u32, value: u32)
         requires place { place < (Self.sight self.old).places }
-        requires value { value ≤ 2147483647 }
+        requires value { value ≤ MAX_TOKENS }
         ensures { Self.sight self.new ≡ assigned (Self.sight self.old) place value };
 }

@@ -17,8 +17,8 @@ use Rattle.san_net.specs.declared.activity.ActKind.{ActKind}
 use Rattle.san_net.specs.declared.activity.ActKind.TheVariants.{Timed, Instant}
 use Rattle.san_net.specs.declared.atomic.Atomic.{Atomic}
 use Rattle.san_net.specs.declared.atomic.ImpulseTerm.{ImpulseTerm}
-use Rattle.san_net.specs.declared.first.Found.{Found}
-use Rattle.san_net.specs.declared.first.Found.TheVariants.{Nothing, Enabled, Broken}
+use Rattle.san_net.specs.declared.first.FirstInstant.{FirstInstant}
+use Rattle.san_net.specs.declared.first.FirstInstant.TheVariants as first
 use Rattle.san_net.specs.declared.part.Part.{Part}
 use Rattle.san_net.proofs.ConcernLemmas.{enabling_concerns, enabling_reads, or_left, or_right}
 
@@ -85,25 +85,25 @@ module _ (cells : CellSet) where
   test_concerns (a ∷ acts) (suc k) part = test_concerns acts k (λ q h. part q (or_right (enabling_mentions a.1 q) (any_of (map (λ x. enabling_mentions x.1) acts) q) h))
 
   firsts_concern : (acts : List Named) (order : List ℕ) → IsPartOf (any_of (map (λ x. enabling_mentions x.1) acts)) cells → Concerns cells (first_among acts order)
-  firsts_concern acts [] part = concerns_settled cells (Ok Nothing)
+  firsts_concern acts [] part = concerns_settled cells (Ok first.None)
   firsts_concern acts (k ∷ order) part =
       concerns_then cells (attempt (enabled_by (slice_get acts k))) (found_or k (first_among acts order)) (attempt_concerns cells (enabled_by (slice_get acts k)) (test_concerns acts k part))
       (λ r. by_answer_of r (firsts_concern acts order part))
     where
       by_answer_of : (r : Result Bool Trap) → Concerns cells (first_among acts order) → Concerns cells (found_or k (first_among acts order) r)
-      by_answer_of (Ok true) rest = concerns_settled cells {T = Found} (Ok (Enabled k))
+      by_answer_of (Ok true) rest = concerns_settled cells {T = FirstInstant} (Ok (first.Enabled k))
       by_answer_of (Ok false) rest = rest
-      by_answer_of (Err t) rest = concerns_settled cells {T = Found} (Ok (Broken k t))
+      by_answer_of (Err t) rest = concerns_settled cells {T = FirstInstant} (Ok (first.Trapped k t))
 
 firsts_read : (acts : List Named) (order : List ℕ) → AssignsNothing (first_among acts order)
-firsts_read acts [] = nothing_settled (Ok Nothing)
+firsts_read acts [] = nothing_settled (Ok first.None)
 firsts_read acts (k ∷ order) =
     nothing_then (attempt (enabled_by (slice_get acts k))) (found_or k (first_among acts order)) (attempt_reads (enabled_by (slice_get acts k)) (test_reads acts k)) (λ r. by_answer_of r (firsts_read acts order))
   where
     by_answer_of : (r : Result Bool Trap) → AssignsNothing (first_among acts order) → AssignsNothing (found_or k (first_among acts order) r)
-    by_answer_of (Ok true) rest = nothing_settled {T = Found} (Ok (Enabled k))
+    by_answer_of (Ok true) rest = nothing_settled {T = FirstInstant} (Ok (first.Enabled k))
     by_answer_of (Ok false) rest = rest
-    by_answer_of (Err t) rest = nothing_settled {T = Found} (Ok (Broken k t))
+    by_answer_of (Err t) rest = nothing_settled {T = FirstInstant} (Ok (first.Trapped k t))
 
 pub first_concerns : (a : Atomic) → Concerns (tests_mention a) (first_of a)
 first_concerns a = firsts_concern (tests_mention a) a.acts a.instants (λ q h. h)

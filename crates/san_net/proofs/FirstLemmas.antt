@@ -15,8 +15,8 @@ use Rattle.std.proofs.lemmas.Option.{slice_get_past}
 use Rattle.san_net.specs.Enabled.{enabled_of}
 use Rattle.san_net.specs.First.{attempt, enabled_by, first_among, found_or}
 use Rattle.san_net.specs.Instants.{Named}
-use Rattle.san_net.specs.declared.first.Found.{Found}
-use Rattle.san_net.specs.declared.first.Found.TheVariants.{Nothing, Enabled, Broken}
+use Rattle.san_net.specs.declared.first.FirstInstant.{FirstInstant}
+use Rattle.san_net.specs.declared.first.FirstInstant.TheVariants as first
 
 -- a trap is an answer like others
 evaluates_attempt : {T : Type 0} (old new : Sight) (a : Meaning T) (r : Result T Trap) → Evaluates old new a r → Evaluates old new (attempt a) (Ok r)
@@ -42,9 +42,9 @@ module _ (acts : List Named) where
 
   -- what the rest of the activities gives from here on, all of them give from the start
   abbrev pub Stands : Sight → Sight → List ℕ → List ℕ → Type 0
-  Stands was now order rest = (new : Sight) (r : Found) → Evaluates now new (first_among acts rest) (Ok r) → Evaluates was new (first_among acts order) (Ok r)
+  Stands was now order rest = (new : Sight) (r : FirstInstant) → Evaluates now new (first_among acts rest) (Ok r) → Evaluates was new (first_among acts order) (Ok r)
 
-  step_by : (now next new : Sight) (rest : List ℕ) (k : ℕ) (read : Result Bool Trap) (r : Found) → Evaluates now next (test k) read
+  step_by : (now next new : Sight) (rest : List ℕ) (k : ℕ) (read : Result Bool Trap) (r : FirstInstant) → Evaluates now next (test k) read
       → Evaluates next new (found_or k (first_among acts rest) read) (Ok r) → Evaluates now new (first_among acts (k ∷ rest)) (Ok r)
   step_by now next new rest k read r p q = evaluates_then now next new (attempt (test k)) (found_or k (first_among acts rest)) read (Ok r) (evaluates_attempt now next (test k) read p) q
 
@@ -52,16 +52,16 @@ module _ (acts : List Named) where
   stands_more was now next order rest k read stands is p = λ new r q.
       stands new r (step_by now next new rest k read r p (subst (λ (a : Result Bool Trap). Evaluates next new (found_or k (first_among acts rest) a) (Ok r)) (sym is) q))
 
-  pub stands_yes : (was now next : Sight) (order rest : List ℕ) (k : ℕ) (read : Result Bool Trap) → Stands was now order (k ∷ rest) → read ≡ Ok true → Evaluates now next (test k) read → Evaluates was next (first_among acts order) (Ok (Enabled k))
+  pub stands_yes : (was now next : Sight) (order rest : List ℕ) (k : ℕ) (read : Result Bool Trap) → Stands was now order (k ∷ rest) → read ≡ Ok true → Evaluates now next (test k) read → Evaluates was next (first_among acts order) (Ok (first.Enabled k))
   stands_yes was now next order rest k read stands is p =
-      stands next (Enabled k) (step_by now next next rest k read (Enabled k) p (subst (λ (a : Result Bool Trap). Evaluates next next (found_or k (first_among acts rest) a) (Ok (Enabled k))) (sym is) (evaluates_settled next (Ok (Enabled k)))))
+      stands next (first.Enabled k) (step_by now next next rest k read (first.Enabled k) p (subst (λ (a : Result Bool Trap). Evaluates next next (found_or k (first_among acts rest) a) (Ok (first.Enabled k))) (sym is) (evaluates_settled next (Ok (first.Enabled k)))))
 
-  pub stands_trap : (was now next : Sight) (order rest : List ℕ) (k : ℕ) (t : Trap) (read : Result Bool Trap) → Stands was now order (k ∷ rest) → read ≡ Err t → Evaluates now next (test k) read → Evaluates was next (first_among acts order) (Ok (Broken k t))
+  pub stands_trap : (was now next : Sight) (order rest : List ℕ) (k : ℕ) (t : Trap) (read : Result Bool Trap) → Stands was now order (k ∷ rest) → read ≡ Err t → Evaluates now next (test k) read → Evaluates was next (first_among acts order) (Ok (first.Trapped k t))
   stands_trap was now next order rest k t read stands is p =
-      stands next (Broken k t) (step_by now next next rest k read (Broken k t) p (subst (λ (a : Result Bool Trap). Evaluates next next (found_or k (first_among acts rest) a) (Ok (Broken k t))) (sym is) (evaluates_settled next (Ok (Broken k t)))))
+      stands next (first.Trapped k t) (step_by now next next rest k read (first.Trapped k t) p (subst (λ (a : Result Bool Trap). Evaluates next next (found_or k (first_among acts rest) a) (Ok (first.Trapped k t))) (sym is) (evaluates_settled next (Ok (first.Trapped k t)))))
 
-  pub stands_end : (was now : Sight) (order rest : List ℕ) → Stands was now order rest → rest ≡ [] → Evaluates was now (first_among acts order) (Ok Nothing)
-  stands_end was now order rest stands none = stands now Nothing (subst (λ (ks : List ℕ). Evaluates now now (first_among acts ks) (Ok Nothing)) (sym none) (evaluates_settled now (Ok Nothing)))
+  pub stands_end : (was now : Sight) (order rest : List ℕ) → Stands was now order rest → rest ≡ [] → Evaluates was now (first_among acts order) (Ok first.None)
+  stands_end was now order rest stands none = stands now first.None (subst (λ (ks : List ℕ). Evaluates now now (first_among acts ks) (Ok first.None)) (sym none) (evaluates_settled now (Ok first.None)))
 
 pub rest_at : (xs : List ℕ) (i : ℕ) → i < length xs → drop i xs ≡ get_or xs i 0 ∷ drop (i + 1) xs
 rest_at xs i h = drop-cons xs i 0 h ∙ ap (λ n. get_or xs i 0 ∷ drop n xs) (sym (add-one i))

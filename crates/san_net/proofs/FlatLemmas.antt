@@ -1,5 +1,5 @@
 -- The tables of a network.
-use Rattle.std.proofs.Common.{◌≡◌, ◌∙◌, ℕ, get_or, sym, ◌<◌, ap, arith, refl, List, [], ◌∷◌, length, length-append, Some}
+use Rattle.std.proofs.Common.{◌≡◌, ◌∙◌, ℕ, zero, suc, get_or, sym, ◌+◌, ◌<◌, ◌≤◌, ap, arith, refl, List, [], ◌∷◌, length, length-append, Option, Some, take}
 use Rattle.std.specs.Prelude.{replicate, slice_get}
 use Rattle.std.proofs.lemmas.List.{length-replicate}
 use Rattle.std.proofs.lemmas.List.Concat.{flat_map-cons}
@@ -30,3 +30,21 @@ pub leaf_at : (parts : List Part) (table : List LeafId) (act : ℕ) (leaf : Leaf
 leaf_at parts table act leaf is within at =
     let many = acts_counted parts in
     got_one (leaves_of_acts parts) act leaf (omega (arith, many, within)) ∙ ap Some (sym (at ∙ ap (λ (xs : List LeafId). get_or xs act leaf) is))
+
+-- the activities of one part more
+acts_more : (ps : List Part) (j : ℕ) (p : Part) → slice_get ps j ≡ Some p → acts_of (take j ps) + length p.atomic.acts ≤ acts_of ps
+acts_more [] j p is = cc
+acts_more (q ∷ qs) zero p is =
+    let all : acts_of (q ∷ qs) ≡ length q.atomic.acts + acts_of qs = sum_by-cons (λ x. length x.atomic.acts) q qs in
+    let none : acts_of (take zero (q ∷ qs)) ≡ 0 = refl in
+    omega (arith, all, none, ap (λ (x : Part). length x.atomic.acts) (some_same q p is))
+  where
+    some_same : (x y : Part) → (let o : Option Part = Some x in o) ≡ Some y → x ≡ y
+    some_same x y e = cc
+acts_more (q ∷ qs) (suc j) p is =
+    let all : acts_of (q ∷ qs) ≡ length q.atomic.acts + acts_of qs = sum_by-cons (λ x. length x.atomic.acts) q qs in
+    let front : acts_of (take (suc j) (q ∷ qs)) ≡ length q.atomic.acts + acts_of (take j qs) = sum_by-cons (λ x. length x.atomic.acts) q (take j qs) in
+    omega (arith, all, front, acts_more qs j p is)
+
+pub acts_within : (n : Network) (j : ℕ) (p : Part) → IsNetwork n → slice_get n.parts j ≡ Some p → p.first.0 + length p.atomic.acts ≤ acts_of n.parts
+acts_within n j p known is = omega (arith, acts_more n.parts j p is, known.numbered.acts j p is)

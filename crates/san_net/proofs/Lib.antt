@@ -21,3 +21,6 @@ pub mod ImporterLemmas
 pub mod Counted
 pub mod Reacted
 pub mod ReaderLemmas
+pub mod CellLemmas
+pub mod ShareLemmas
+pub mod PartLemmas

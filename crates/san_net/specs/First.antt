@@ -5,8 +5,8 @@ use Rattle.san_expr.specs.Meaning.{Meaning, settled, then_do}
 use Rattle.san_net.specs.Enabled.{enabled_of}
 use Rattle.san_net.specs.Instants.{Named}
 use Rattle.san_net.specs.declared.atomic.Atomic.{Atomic}
-use Rattle.san_net.specs.declared.first.Found.{Found}
-use Rattle.san_net.specs.declared.first.Found.TheVariants.{Nothing, Enabled, Broken}
+use Rattle.san_net.specs.declared.first.FirstInstant.{FirstInstant}
+use Rattle.san_net.specs.declared.first.FirstInstant.TheVariants as first
 
 -- a trap as an answer, with which one can go on
 abbrev pub attempt : {T : Type 0} → Meaning T → Meaning (Result T Trap)
@@ -17,16 +17,16 @@ abbrev pub enabled_by : Option Named → Meaning Bool
 enabled_by None = settled (Ok false)
 enabled_by (Some a) = enabled_of a.1
 
-abbrev pub found_or : ℕ → Meaning Found → Result Bool Trap → Meaning Found
-found_or k rest (Ok true) = settled (Ok (Enabled k))
+abbrev pub found_or : ℕ → Meaning FirstInstant → Result Bool Trap → Meaning FirstInstant
+found_or k rest (Ok true) = settled (Ok (first.Enabled k))
 found_or k rest (Ok false) = rest
-found_or k rest (Err trap) = settled (Ok (Broken k trap))
+found_or k rest (Err trap) = settled (Ok (first.Trapped k trap))
 
 -- the first of these that is enabled or traps
-abbrev pub first_among : List Named → List ℕ → Meaning Found
-first_among acts [] = settled (Ok Nothing)
+abbrev pub first_among : List Named → List ℕ → Meaning FirstInstant
+first_among acts [] = settled (Ok first.None)
 first_among acts (k ∷ order) = then_do (attempt (enabled_by (slice_get acts k))) (found_or k (first_among acts order))
 
 -- the instantaneous activities in the order of testing
-abbrev pub first_of : Atomic → Meaning Found
+abbrev pub first_of : Atomic → Meaning FirstInstant
 first_of a = first_among a.acts a.instants

@@ -1,10 +1,12 @@
 -- What is known of a network that can be run: how its parts and its rewards fit together.
-use Rattle.std.specs.Prelude.{ℕ, ◌≡◌, ◌≤◌, ◌<◌, nat_eq, Bool, false, ◌||◌, List, length, map, take, All, Option, Some, None, slice_get}
+use Rattle.std.specs.Prelude.{ℕ, ◌+◌, ◌≡◌, ◌≤◌, ◌<◌, nat_eq, Bool, false, ◌||◌, List, length, map, take, All, Option, Some, None, slice_get}
 use Rattle.std.specs.List.{list_any, sum_by}
+use Rattle.san_base.specs.declared.limits.TheConstants.{MAX_ACTS, MAX_HORIZON, MAX_LEAVES, MAX_PLACES}
 use Rattle.san_net.specs.Accepted.{IsAccepted, rewards_of}
 use Rattle.san_net.specs.Apart.{AreApart}
 use Rattle.san_net.specs.Network.{Network}
 use Rattle.san_net.specs.Numbering.{all_of, counting, ordered, repeated}
+use Rattle.san_net.specs.declared.part.TheConstants.{MAX_REWARDS}
 use Rattle.san_net.specs.declared.part.Part.{Part}
 use Rattle.san_net.specs.declared.part.Reward.{Reward}
 use Rattle.san_net.specs.declared.part.Slot.{Slot}
@@ -60,9 +62,9 @@ pub record ArePaths (n : Network) : Type 0 where
 
 -- at least one tick, within the greatest horizon
 abbrev pub IsSpan : Span → Type 0
-IsSpan (span.Over from to) = (from.0 < to.0) × (to.0 ≤ 1000000000001)
-IsSpan (span.Mean from to) = (from.0 < to.0) × (to.0 ≤ 1000000000001)
-IsSpan (span.At tick) = tick.0 ≤ 1000000000000
+IsSpan (span.Over from to) = (from.0 < to.0) × (to.0 ≤ MAX_HORIZON + 1)
+IsSpan (span.Mean from to) = (from.0 < to.0) × (to.0 ≤ MAX_HORIZON + 1)
+IsSpan (span.At tick) = tick.0 ≤ MAX_HORIZON
 
 -- an interval, and no single tick
 abbrev pub IsInterval : Span → Type 0
@@ -75,9 +77,9 @@ abbrev pub MayBeTold : Option Reward → Type 0
 MayBeTold None = Unit {0}
 MayBeTold (Some r) = IsInterval r.span
 
--- at most 64 rewards, each over a span; each term's reward is one of them
+-- at most `MAX_REWARDS` rewards, each over a span; each term's reward is one of them
 pub record AreRewarded (n : Network) : Type 0 where
-  pub few : length n.rewards ≤ 64
+  pub few : length n.rewards ≤ MAX_REWARDS
   pub spans : All (λ r. IsSpan r.span) n.rewards
   pub known : EachPart n.parts (λ _ p. All (λ r. r < length n.rewards) (rewards_of p.atomic))
   pub told : EachPart n.parts (λ _ p. All (λ t. MayBeTold (slice_get n.rewards t.reward)) p.atomic.impulses)
@@ -90,9 +92,9 @@ pub record AreNumbered (n : Network) : Type 0 where
 
 -- the limits of a network
 pub record IsSmall (n : Network) : Type 0 where
-  pub leaves : length n.parts ≤ 4096
-  pub places : length n.initial ≤ 65536
-  pub acts : acts_of n.parts ≤ 65536
+  pub leaves : length n.parts ≤ MAX_LEAVES
+  pub places : length n.initial ≤ MAX_PLACES
+  pub acts : acts_of n.parts ≤ MAX_ACTS
 
 pub record IsNetwork (n : Network) : Type 0 where
   pub accepted : EachPart n.parts (λ _ p. IsAccepted p.atomic)

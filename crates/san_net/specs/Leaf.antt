@@ -16,8 +16,8 @@ use Rattle.san_base.specs.Rated.{rated_by}
 use Rattle.san_net.specs.declared.activity.ActKind.{ActKind}
 use Rattle.san_net.specs.declared.activity.ActKind.TheVariants as kind
 use Rattle.san_net.specs.declared.activity.Activity.{Activity}
-use Rattle.san_net.specs.declared.first.Found.{Found}
-use Rattle.san_net.specs.declared.first.Found.TheVariants.{Nothing, Enabled, Broken}
+use Rattle.san_net.specs.declared.first.FirstInstant.{FirstInstant}
+use Rattle.san_net.specs.declared.first.FirstInstant.TheVariants as first
 use Rattle.san_net.specs.declared.atomic.Atomic.{Atomic}
 use Rattle.san_net.specs.declared.atomic.RateTerm.{RateTerm}
 use Rattle.san_net.specs.declared.atomic.ImpulseTerm.{ImpulseTerm}
@@ -91,10 +91,10 @@ leaf_of p = record {
 }
 
 -- what stands first, as the law says it
-abbrev pub found_by : Result Found Trap → net.Found
-found_by (Ok Nothing) = net.Nothing
-found_by (Ok (Enabled k)) = net.Enabled k
-found_by (Ok (Broken k trap)) = net.Broken k trap
+abbrev pub found_by : Result FirstInstant Trap → net.Found
+found_by (Ok first.None) = net.Nothing
+found_by (Ok (first.Enabled k)) = net.Enabled k
+found_by (Ok (first.Trapped k trap)) = net.Broken k trap
 found_by (Err trap) = net.Nothing
 
 -- an atomic's first instantaneous activity in a leaf's values

@@ -15,4 +15,5 @@ pub mod Numbering
 pub mod Laid
 pub mod First
 pub mod Tables
+pub mod Cells
 pub mod Examples

@@ -1,7 +1,14 @@
-ghost use Rattle.std.specs.Prelude.{◌≡◌, ◌↔◌, IsTrue};
+//! Activities: inputs, cases with outputs, and when they complete.
 
-use san_expr::{Dist, Expr, Stmt, same_stmts};
+use san_base::Same;
+use san_expr::{Dist, Expr, Stmt};
 use sqlite_items::Items;
+
+/// The cases of the activity with the most of them: each has a number.
+pub const MAX_CASES: u32 = u32::MAX;
+
+/// The greatest priority.
+pub const MAX_PRIORITY: u32 = 1_000;
 
 /// What an activity needs of the marking and takes from it, after Sanders and Meyer's input gates.
 #[derive(Debug, Drop)]
@@ -50,118 +57,48 @@ pub struct Activity {
     pub cases: Items<Case>,
 }
 
-impl Input {
-    /// Whether both are equal, part by part.
-    pub fn same(&self, other: &Input) -> bool
-        ensures { IsTrue result ↔ (self.now ≡ other.now) }
-    {
+impl Same for Input {
+    fn same(&self, other: &Input) -> bool {
         match (self, other) {
             (Input::Arc(p, m), Input::Arc(q, n)) => p == q && m == n,
-            (Input::Gate(x, a), Input::Gate(y, b)) => {
-                x.same(y) && same_stmts(a.as_slice(), b.as_slice())
-            }
+            (Input::Gate(x, a), Input::Gate(y, b)) => x.same(y) && a.same(b),
             _ => false,
         }
     }
 }
 
-impl Output {
-    /// Whether both are equal, part by part.
-    pub fn same(&self, other: &Output) -> bool
-        ensures { IsTrue result ↔ (self.now ≡ other.now) }
-    {
+impl Same for Output {
+    fn same(&self, other: &Output) -> bool {
         match (self, other) {
             (Output::Arc(p, m), Output::Arc(q, n)) => p == q && m == n,
-            (Output::Body(a), Output::Body(b)) => same_stmts(a.as_slice(), b.as_slice()),
+            (Output::Body(a), Output::Body(b)) => a.same(b),
             _ => false,
         }
     }
 }
 
-fn same_inputs(a: &[Input], b: &[Input]) -> bool
-    ensures { IsTrue result ↔ (a.now ≡ b.now) }
-{
-    if a.len() != b.len() {
-        return false;
-    }
-    for (at, input) in a.iter().enumerate() {
-        if !input.same(&b[at]) {
-            return false;
-        }
-    }
-    true
-}
-
-fn same_outputs(a: &[Output], b: &[Output]) -> bool
-    ensures { IsTrue result ↔ (a.now ≡ b.now) }
-{
-    if a.len() != b.len() {
-        return false;
-    }
-    for (at, output) in a.iter().enumerate() {
-        if !output.same(&b[at]) {
-            return false;
-        }
-    }
-    true
-}
-
-fn same_cases(a: &[Case], b: &[Case]) -> bool
-    ensures { IsTrue result ↔ (a.now ≡ b.now) }
-{
-    if a.len() != b.len() {
-        return false;
-    }
-    for (at, case) in a.iter().enumerate() {
-        if !case.same(&b[at]) {
-            return false;
-        }
-    }
-    true
-}
-
-fn same_pair(a: &Option<(Expr, Expr)>, b: &Option<(Expr, Expr)>) -> bool
-    ensures { IsTrue result ↔ (a.now ≡ b.now) }
-{
-    match (a, b) {
-        (Some((x, z)), Some((y, w))) => x.same(y) && z.same(w),
-        (None, None) => true,
-        _ => false,
+impl Same for Case {
+    fn same(&self, other: &Case) -> bool {
+        self.weight.same(&other.weight) && self.outputs.same(&other.outputs)
     }
 }
 
-impl Case {
-    /// Whether both are equal, part by part.
-    pub fn same(&self, other: &Case) -> bool
-        ensures { IsTrue result ↔ (self.now ≡ other.now) }
-    {
-        self.weight.same(&other.weight)
-            && same_outputs(self.outputs.as_slice(), other.outputs.as_slice())
-    }
-}
-
-impl ActKind {
-    /// Whether both are equal, part by part.
-    pub fn same(&self, other: &ActKind) -> bool
-        ensures { IsTrue result ↔ (self.now ≡ other.now) }
-    {
+impl Same for ActKind {
+    fn same(&self, other: &ActKind) -> bool {
         match (self, other) {
-            (ActKind::Timed { delay: d, pair: p }, ActKind::Timed { delay: e, pair: q }) => d.same(
-                e,
-            ) && same_pair(p, q),
+            (ActKind::Timed { delay: d, pair: p }, ActKind::Timed { delay: e, pair: q }) => {
+                d.same(e) && p.same(q)
+            }
             (ActKind::Instant { priority: m }, ActKind::Instant { priority: n }) => m == n,
             _ => false,
         }
     }
 }
 
-impl Activity {
-    /// Whether both are equal, part by part.
-    pub fn same(&self, other: &Activity) -> bool
-        ensures { IsTrue result ↔ (self.now ≡ other.now) }
-    {
+impl Same for Activity {
+    fn same(&self, other: &Activity) -> bool {
         self.kind.same(&other.kind)
-            && same_inputs(self.inputs.as_slice(), other.inputs.as_slice())
-            && same_cases(self.cases.as_slice(), other.cases.as_slice())
+            && self.inputs.same(&other.inputs)
+            && self.cases.same(&other.cases)
     }
 }

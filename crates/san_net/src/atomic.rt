@@ -1,9 +1,15 @@
-ghost use Rattle.std.specs.Prelude.{◌≡◌, ◌↔◌, IsTrue};
+//! Atomic models: cells, activities, terms of rewards.
 
 use crate::activity::Activity;
-use san_base::Name;
+use san_base::{Name, Same};
 use san_expr::Expr;
 use sqlite_items::Items;
+
+/// The activities of the largest atomic model.
+pub const MAX_ATOMIC_ACTS: usize = 256;
+
+/// The terms of a reward in an atomic model.
+pub const MAX_TERMS: usize = 16;
 
 /// A term of a reward that counts its value at the end of each tick.
 #[derive(Debug, Drop)]
@@ -32,84 +38,25 @@ pub struct Atomic {
     pub impulses: Items<ImpulseTerm>,
 }
 
-impl RateTerm {
-    /// Whether both are equal, part by part.
-    pub fn same(&self, other: &RateTerm) -> bool
-        ensures { IsTrue result ↔ (self.now ≡ other.now) }
-    {
+impl Same for RateTerm {
+    fn same(&self, other: &RateTerm) -> bool {
         self.reward == other.reward && self.expr.same(&other.expr)
     }
 }
 
-impl ImpulseTerm {
-    /// Whether both are equal, part by part.
-    pub fn same(&self, other: &ImpulseTerm) -> bool
-        ensures { IsTrue result ↔ (self.now ≡ other.now) }
-    {
+impl Same for ImpulseTerm {
+    fn same(&self, other: &ImpulseTerm) -> bool {
         self.reward == other.reward && self.act == other.act && self.expr.same(&other.expr)
     }
 }
 
-fn same_named(a: &(Name, Activity), b: &(Name, Activity)) -> bool
-    ensures { IsTrue result ↔ (a.now ≡ b.now) }
-{
-    let (x, f) = a;
-    let (y, g) = b;
-    x.same(y) && f.same(g)
-}
-
-fn same_acts(a: &[(Name, Activity)], b: &[(Name, Activity)]) -> bool
-    ensures { IsTrue result ↔ (a.now ≡ b.now) }
-{
-    if a.len() != b.len() {
-        return false;
-    }
-    for (at, act) in a.iter().enumerate() {
-        if !same_named(act, &b[at]) {
-            return false;
-        }
-    }
-    true
-}
-
-fn same_rates(a: &[RateTerm], b: &[RateTerm]) -> bool
-    ensures { IsTrue result ↔ (a.now ≡ b.now) }
-{
-    if a.len() != b.len() {
-        return false;
-    }
-    for (at, term) in a.iter().enumerate() {
-        if !term.same(&b[at]) {
-            return false;
-        }
-    }
-    true
-}
-
-fn same_impulses(a: &[ImpulseTerm], b: &[ImpulseTerm]) -> bool
-    ensures { IsTrue result ↔ (a.now ≡ b.now) }
-{
-    if a.len() != b.len() {
-        return false;
-    }
-    for (at, term) in a.iter().enumerate() {
-        if !term.same(&b[at]) {
-            return false;
-        }
-    }
-    true
-}
-
-impl Atomic {
-    /// Whether both are equal, part by part.
-    pub fn same(&self, other: &Atomic) -> bool
-        ensures { IsTrue result ↔ (self.now ≡ other.now) }
-    {
+impl Same for Atomic {
+    fn same(&self, other: &Atomic) -> bool {
         self.name.same(&other.name)
-            && self.initial.as_slice() == other.initial.as_slice()
-            && same_acts(self.acts.as_slice(), other.acts.as_slice())
-            && self.instants.as_slice() == other.instants.as_slice()
-            && same_rates(self.rates.as_slice(), other.rates.as_slice())
-            && same_impulses(self.impulses.as_slice(), other.impulses.as_slice())
+            && self.initial.same(&other.initial)
+            && self.acts.same(&other.acts)
+            && self.instants.same(&other.instants)
+            && self.rates.same(&other.rates)
+            && self.impulses.same(&other.impulses)
     }
 }

@@ -1,3 +1,5 @@
+//! Whether every cell of an activity is below a number.
+
 ghost use Rattle.std.specs.Prelude.{◌≡◌};
 ghost use Rattle.san_net.specs.Below.{activity_below, acts_below, case_below, cases_below, input_below, inputs_below, kind_below, output_below, outputs_below};
 

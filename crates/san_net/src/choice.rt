@@ -1,3 +1,5 @@
+//! The choice of a case by the weights of all.
+
 ghost use Rattle.std.specs.Prelude.{◌≡◌, ◌≤◌, length, Some, IsTrue};
 ghost use Rattle.san_expr.specs.Below.{places_below};
 ghost use Rattle.san_expr.specs.Meets.{Evaluates};
@@ -5,8 +7,8 @@ ghost use Rattle.san_net.specs.Below.{case_below, cases_below};
 ghost use Rattle.san_net.specs.Choice.{case_of, is_total, natural, weight_of};
 ghost use Rattle.san_net.specs.Weighing.{by_total, found_from, passed, total_from, weigh};
 
-use crate::activity::Case;
-use san_base::Trap;
+use crate::activity::{Case, MAX_CASES};
+use san_base::{MAX_WEIGHT, Trap};
 use san_draw::pick;
 use san_expr::{Marked, eval};
 
@@ -21,10 +23,8 @@ fn weight<V: Marked>(case: &Case, view: &mut V) -> Result<Option<u64>, Trap>
     requires { IsTrue (case_below case.now (V.sight view.old).places) }
     ensures { Evaluates (V.sight view.old) (V.sight view.new) (weight_of case.now) result }
 {
-    match eval(&case.weight, view) {
-        Ok(x) => Ok(natural(x)),
-        Err(trap) => Err(trap),
-    }
+    let x = eval(&case.weight, view)?;
+    Ok(natural(x))
 }
 
 /// The sum with one weight more, or none where a weight was negative or the sum is too large.
@@ -44,10 +44,8 @@ fn total<V: Marked>(cases: &[Case], view: &mut V) -> Result<Option<u64>, Trap>
 {
     let mut sum = Some(0);
     for case in cases {
-        match weight(case, view) {
-            Ok(weight) => sum = weigh(sum, weight),
-            Err(trap) => return Err(trap),
-        }
+        let weight = weight(case, view)?;
+        sum = weigh(sum, weight);
     }
     Ok(sum)
 }
@@ -65,19 +63,17 @@ fn passed(left: u64, weight: Option<u64>) -> Option<u64>
 /// The case whose cumulative weight is the first to exceed a number. Its weights were evaluated
 /// before, so that it reads nothing new.
 fn find<V: Marked>(cases: &[Case], picked: u64, view: &mut V) -> Result<u32, Trap>
-    requires numbered { length cases.now ≤ 4294967295 }
+    requires numbered { length cases.now ≤ MAX_CASES }
     requires places { IsTrue (cases_below cases.now (V.sight view.old).places) }
     ensures { Evaluates (V.sight view.old) (V.sight view.new) (found_from picked 0 cases.now)
         result }
 {
     let mut left = picked;
     for (at, case) in cases.iter().enumerate() {
-        match weight(case, view) {
-            Ok(weight) => match passed(left, weight) {
-                Some(rest) => left = rest,
-                None => return Ok(at as u32),
-            },
-            Err(trap) => return Err(trap),
+        let weight = weight(case, view)?;
+        match passed(left, weight) {
+            Some(rest) => left = rest,
+            None => return Ok(at as u32),
         }
     }
     Ok(cases.len() as u32)
@@ -86,11 +82,11 @@ fn find<V: Marked>(cases: &[Case], picked: u64, view: &mut V) -> Result<u32, Tra
 fn is_total(n: u64) -> bool
     ensures { result ≡ is_total n }
 {
-    1 <= n && n <= 1 << 32
+    1 <= n && n <= MAX_WEIGHT
 }
 
 fn find_by<V: Marked>(cases: &[Case], u: u64, total: Option<u64>, view: &mut V) -> Result<u32, Trap>
-    requires numbered { length cases.now ≤ 4294967295 }
+    requires numbered { length cases.now ≤ MAX_CASES }
     requires places { IsTrue (cases_below cases.now (V.sight view.old).places) }
     ensures { Evaluates (V.sight view.old) (V.sight view.new) (by_total u cases.now total) result }
 {
@@ -108,12 +104,10 @@ fn find_by<V: Marked>(cases: &[Case], u: u64, total: Option<u64>, view: &mut V) 
 
 /// The case that a draw chooses, by the weights of all.
 pub(crate) fn choose_case<V: Marked>(cases: &[Case], u: u64, view: &mut V) -> Result<u32, Trap>
-    requires numbered { length cases.now ≤ 4294967295 }
+    requires numbered { length cases.now ≤ MAX_CASES }
     requires places { IsTrue (cases_below cases.now (V.sight view.old).places) }
     ensures { Evaluates (V.sight view.old) (V.sight view.new) (case_of u cases.now) result }
 {
-    match total(cases, view) {
-        Ok(sum) => find_by(cases, u, sum, view),
-        Err(trap) => Err(trap),
-    }
+    let sum = total(cases, view)?;
+    find_by(cases, u, sum, view)
 }

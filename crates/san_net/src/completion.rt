@@ -1,10 +1,12 @@
+//! The completion of an activity over a view of its leaf's cells.
+
 ghost use Rattle.std.specs.Prelude.{◌≡◌, ◌<◌, ◌≤◌, ◌+ℤ◌, ◌-ℤ◌, length, pos, IsTrue};
 ghost use Rattle.san_expr.specs.Effect.{count_of};
 ghost use Rattle.san_expr.specs.Meets.{Meets};
 ghost use Rattle.san_net.specs.Below.{activity_below, cases_below, input_below, inputs_below, output_below, outputs_below};
 ghost use Rattle.san_net.specs.Completion.{added_to, case_outputs, completed_by, completion_of, function_of, inputs_of, output_of, outputs_of, taken_from};
 
-use crate::activity::{Activity, Case, Input, Output};
+use crate::activity::{Activity, Case, Input, MAX_CASES, Output};
 use crate::choice::choose_case;
 use san_base::Trap;
 use san_expr::{Cells, count_of, run_stmts};
@@ -25,26 +27,18 @@ fn take<V: Cells>(place: u32, weight: u32, view: &mut V) -> Result<(), Trap>
     requires { place < (V.sight view.old).places }
     ensures { Meets (V.sight view.old) (V.sight view.new) (taken_from place weight) result }
 {
-    match less(view.read(place), weight) {
-        Ok(count) => {
-            view.set(place, count);
-            Ok(())
-        }
-        Err(trap) => Err(trap),
-    }
+    let count = less(view.read(place), weight)?;
+    view.set(place, count);
+    Ok(())
 }
 
 fn add<V: Cells>(place: u32, weight: u32, view: &mut V) -> Result<(), Trap>
     requires { place < (V.sight view.old).places }
     ensures { Meets (V.sight view.old) (V.sight view.new) (added_to place weight) result }
 {
-    match more(view.read(place), weight) {
-        Ok(count) => {
-            view.set(place, count);
-            Ok(())
-        }
-        Err(trap) => Err(trap),
-    }
+    let count = more(view.read(place), weight)?;
+    view.set(place, count);
+    Ok(())
 }
 
 fn apply_input<V: Cells>(input: &Input, view: &mut V) -> Result<(), Trap>
@@ -72,10 +66,7 @@ fn apply_inputs<V: Cells>(inputs: &[Input], view: &mut V) -> Result<(), Trap>
     ensures { Meets (V.sight view.old) (V.sight view.new) (inputs_of inputs.now) result }
 {
     for input in inputs {
-        match apply_input(input, view) {
-            Ok(()) => {}
-            Err(trap) => return Err(trap),
-        }
+        apply_input(input, view)?;
     }
     Ok(())
 }
@@ -85,10 +76,7 @@ fn apply_outputs<V: Cells>(outputs: &[Output], view: &mut V) -> Result<(), Trap>
     ensures { Meets (V.sight view.old) (V.sight view.new) (outputs_of outputs.now) result }
 {
     for output in outputs {
-        match apply_output(output, view) {
-            Ok(()) => {}
-            Err(trap) => return Err(trap),
-        }
+        apply_output(output, view)?;
     }
     Ok(())
 }
@@ -117,29 +105,23 @@ fn complete_by<V: Cells>(
     cases: &[Case],
     view: &mut V,
 ) -> Result<u32, Trap>
-    requires numbered { length cases.now ≤ 4294967295 }
+    requires numbered { length cases.now ≤ MAX_CASES }
     requires inputs { IsTrue (inputs_below inputs.now (V.sight view.old).places) }
     requires cases { IsTrue (cases_below cases.now (V.sight view.old).places) }
     ensures { Meets (V.sight view.old) (V.sight view.new) (completed_by u inputs.now cases.now)
         result }
 {
-    match choose_case(cases, u, view) {
-        Ok(at) => match apply_inputs(inputs, view) {
-            Ok(()) => match apply_case(cases, at as usize, view) {
-                Ok(()) => Ok(at),
-                Err(trap) => Err(trap),
-            },
-            Err(trap) => Err(trap),
-        },
-        Err(trap) => Err(trap),
-    }
+    let at = choose_case(cases, u, view)?;
+    apply_inputs(inputs, view)?;
+    apply_case(cases, at as usize, view)?;
+    Ok(at)
 }
 
 /// Completes an activity with a case draw, and answers the case. After a trap the view holds the
 /// assignments made before it. Sanders and Meyer's completion rule: a case is chosen, then come the
 /// input functions, then the outputs of the case. When the weights are evaluated is an own rule.
 pub fn complete<V: Cells>(activity: &Activity, u: u64, view: &mut V) -> Result<u32, Trap>
-    requires numbered { length activity.now.cases ≤ 4294967295 }
+    requires numbered { length activity.now.cases ≤ MAX_CASES }
     requires places { IsTrue (activity_below activity.now (V.sight view.old).places) }
     ensures { Meets (V.sight view.old) (V.sight view.new) (completion_of u activity.now) result }
 {

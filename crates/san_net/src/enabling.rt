@@ -1,3 +1,5 @@
+//! Whether an activity is enabled, over a view of its leaf's cells.
+
 ghost use Rattle.std.specs.Prelude.{◌≡◌, ◌<◌, IsTrue};
 ghost use Rattle.san_expr.specs.Below.{places_below};
 ghost use Rattle.san_expr.specs.Meets.{Evaluates};
@@ -12,10 +14,8 @@ fn truth_of<V: Marked>(e: &Expr, view: &mut V) -> Result<bool, Trap>
     requires { IsTrue (places_below e.now (V.sight view.old).places) }
     ensures { Evaluates (V.sight view.old) (V.sight view.new) (truth_of e.now) result }
 {
-    match eval(e, view) {
-        Ok(x) => Ok(x != 0),
-        Err(trap) => Err(trap),
-    }
+    let x = eval(e, view)?;
+    Ok(x != 0)
 }
 
 fn has_tokens<V: Marked>(place: u32, weight: u32, view: &mut V) -> Result<bool, Trap>
@@ -40,10 +40,9 @@ fn all_hold<V: Marked>(inputs: &[Input], view: &mut V) -> Result<bool, Trap>
     ensures { Evaluates (V.sight view.old) (V.sight view.new) (all_hold inputs.now) result }
 {
     for input in inputs {
-        match predicate(input, view) {
-            Ok(true) => {}
-            Ok(false) => return Ok(false),
-            Err(trap) => return Err(trap),
+        let passed = predicate(input, view)?;
+        if !passed {
+            return Ok(false);
         }
     }
     Ok(true)

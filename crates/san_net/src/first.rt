@@ -1,3 +1,5 @@
+//! The first instantaneous activity of an atomic that is enabled or traps.
+
 ghost use Rattle.std.specs.Prelude.{◌≡◌, Ok, IsTrue, slice_get};
 ghost use Rattle.san_expr.specs.Meets.{Evaluates};
 ghost use Rattle.san_net.specs.Below.{acts_below};
@@ -9,15 +11,15 @@ use crate::enabling::enabled;
 use san_base::{Name, Trap};
 use san_expr::Marked;
 
-/// What stands first among an atomic's instantaneous activities.
+/// What comes first among an atomic's instantaneous activities.
 #[derive(Clone, Copy, Debug, PartialEq, Eq)]
-pub enum Found {
+pub enum FirstInstant {
     /// None is enabled and none traps.
-    Nothing,
+    None,
     /// An enabled activity, by its number in the atomic.
     Enabled(u32),
     /// An activity whose test traps.
-    Broken(u32, Trap),
+    Trapped(u32, Trap),
 }
 
 fn enabled_at<V: Marked>(acts: &[(Name, Activity)], at: u32, view: &mut V) -> Result<bool, Trap>
@@ -31,24 +33,24 @@ fn enabled_at<V: Marked>(acts: &[(Name, Activity)], at: u32, view: &mut V) -> Re
     }
 }
 
-fn first_among<V: Marked>(acts: &[(Name, Activity)], order: &[u32], view: &mut V) -> Found
+fn first_among<V: Marked>(acts: &[(Name, Activity)], order: &[u32], view: &mut V) -> FirstInstant
     requires { IsTrue (acts_below acts.now (V.sight view.old).places) }
     ensures { Evaluates (V.sight view.old) (V.sight view.new) (first_among acts.now order.now) (Ok
         result) }
 {
     for act in order {
         match enabled_at(acts, *act, view) {
-            Ok(true) => return Found::Enabled(*act),
+            Ok(true) => return FirstInstant::Enabled(*act),
             Ok(false) => {}
-            Err(trap) => return Found::Broken(*act, trap),
+            Err(trap) => return FirstInstant::Trapped(*act, trap),
         }
     }
-    Found::Nothing
+    FirstInstant::None
 }
 
 /// The first instantaneous activity that is enabled or traps, by greater priority and for equal
 /// priority by number. The activities after it aren't tested (own rules).
-pub fn first_instant<V: Marked>(atomic: &Atomic, view: &mut V) -> Found
+pub fn first_instant<V: Marked>(atomic: &Atomic, view: &mut V) -> FirstInstant
     requires { IsTrue (acts_below atomic.now.acts (V.sight view.old).places) }
     ensures { Evaluates (V.sight view.old) (V.sight view.new) (first_of atomic.now) (Ok result) }
 {

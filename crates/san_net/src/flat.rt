@@ -1,16 +1,18 @@
+//! The flat network of parts, with its readers.
+
 ghost use Rattle.std.specs.Prelude.{◌≡◌, ◌↔◌, ◌<◌, ◌≤◌, ◌+◌, All, ℕ, length, map, IfOk, IsTrue, slice_get, Some};
 ghost use Rattle.std.specs.List.Sorted.{IsStrictlyIncreasing};
 ghost use Rattle.san_law.specs.Lawful.{IsLaid, IsLawful};
 ghost use Rattle.san_law.specs.Network.{Limits};
 ghost use Rattle.san_net.specs.Laid.{IsNetwork, acts_of};
 ghost use Rattle.san_net.specs.Network.{net_of, network_of};
-ghost use Rattle.san_net.specs.Tables.{importers_of, leaves_of_acts};
+ghost use Rattle.san_net.specs.Tables.{IsActOf, act_of, importers_of, leaves_of_acts};
 ghost use Rattle.san_net.specs.declared.part.Part.{Part};
 
 use crate::part::{Part, Reward};
 use crate::path::Path;
 use crate::tables::{importers_table, leaf_table};
-use san_base::{ActId, LeafId, NoMemory, PlaceId, Shared};
+use san_base::{ActId, LeafId, NoMemory, PlaceId, Same, Shared, all_same};
 use std::alloc::Global;
 use std::marker::Model;
 
@@ -124,6 +126,15 @@ impl Flat {
         self.leaf_of[act.0 as usize]
     }
 
+    /// The network's number of an activity of a leaf, by its number there.
+    pub fn act_of(&self, leaf: LeafId, act: u32) -> ActId
+        requires { IsActOf self.now leaf.0 act }
+        ensures { result ≡ act_of self.now leaf.0 act }
+    {
+        self.is_network();
+        ActId(self.part(leaf).get().first.0 + act)
+    }
+
     /// The number of activities.
     #[tactic(auto, using(crate::proofs::FlatLemmas::acts_counted))]
     pub fn acts(&self) -> u32
@@ -152,6 +163,13 @@ impl Flat {
         ensures { slice_get self.now.initial place.0 ≡ Some result }
     {
         self.initial[place.0 as usize]
+    }
+
+    /// A copy of the initial marking.
+    pub fn initial_marking(&self, alloc: Global) -> Result<Vec<u32>, NoMemory>
+        ensures { IfOk result (λ marking. marking.items ≡ self.now.initial) }
+    {
+        Ok(self.initial.to_vec(alloc)?)
     }
 
     /// The leaves that have a place, in order.
@@ -184,10 +202,10 @@ impl Flat {
         ensures { IsTrue result ↔ (self.now ≡ other.now) }
     {
         self.shared == other.shared
-            && self.initial.as_slice() == other.initial.as_slice()
+            && all_same(&self.initial, &other.initial)
             && same_parts(&self.parts, &other.parts)
-            && same_paths(&self.paths, &other.paths)
-            && same_rewards(&self.rewards, &other.rewards)
+            && all_same(&self.paths, &other.paths)
+            && all_same(&self.rewards, &other.rewards)
     }
 }
 
@@ -199,34 +217,6 @@ fn same_parts(a: &[Shared<Part>], b: &[Shared<Part>]) -> bool
     }
     for (at, part) in a.iter().enumerate() {
         if !part.get().same(b[at].get()) {
-            return false;
-        }
-    }
-    true
-}
-
-fn same_paths(a: &[Path], b: &[Path]) -> bool
-    ensures { IsTrue result ↔ (a.now ≡ b.now) }
-{
-    if a.len() != b.len() {
-        return false;
-    }
-    for (at, path) in a.iter().enumerate() {
-        if !path.same(&b[at]) {
-            return false;
-        }
-    }
-    true
-}
-
-fn same_rewards(a: &[Reward], b: &[Reward]) -> bool
-    ensures { IsTrue result ↔ (a.now ≡ b.now) }
-{
-    if a.len() != b.len() {
-        return false;
-    }
-    for (at, reward) in a.iter().enumerate() {
-        if !reward.same(&b[at]) {
             return false;
         }
     }

@@ -1,3 +1,5 @@
+//! Laws: what a network's activities and leaves keep to.
+
 ghost use Rattle.std.specs.Prelude.{◌≡◌, ℕ, IsTrue, List, length};
 ghost use Rattle.san_expr.specs.Concerns.{AssignsNothing, Concerns};
 ghost use Rattle.san_net.specs.Completion.{completion_of};

@@ -1,8 +1,14 @@
-ghost use Rattle.std.specs.Prelude.{◌≡◌, ◌↔◌, IsTrue};
+//! The parts of a network: its leaves with their slots, and its rewards.
+
+ghost use Rattle.std.specs.Prelude.{◌≡◌};
+ghost use Rattle.san_net.specs.Laid.{place_of};
 
 use crate::atomic::Atomic;
-use san_base::{ActId, LeafId, Name, PlaceId, Shared, Tick};
+use san_base::{ActId, LeafId, Name, PlaceId, Same, Shared, Tick};
 use sqlite_items::Items;
+
+/// The rewards of the network with the most of them.
+pub const MAX_REWARDS: usize = 64;
 
 /// The place of the network that a leaf's cell is, and whether other leaves have it too.
 #[derive(Clone, Copy, Debug, PartialEq, Eq)]
@@ -40,54 +46,39 @@ pub struct Reward {
 }
 
 impl Slot {
-    /// Whether both are equal, part by part.
-    pub fn same(&self, other: &Slot) -> bool
-        ensures { IsTrue result ↔ (self.now ≡ other.now) }
+    /// The place, private or shared.
+    pub fn place(&self) -> PlaceId
+        ensures { result.0 ≡ place_of self.now }
     {
+        match self {
+            Slot::Private(place) | Slot::Shared(place) => *place,
+        }
+    }
+}
+
+impl Same for Slot {
+    fn same(&self, other: &Slot) -> bool {
         self == other
     }
 }
 
-impl Span {
-    /// Whether both are equal, part by part.
-    pub fn same(&self, other: &Span) -> bool
-        ensures { IsTrue result ↔ (self.now ≡ other.now) }
-    {
+impl Same for Span {
+    fn same(&self, other: &Span) -> bool {
         self == other
     }
 }
 
-impl Reward {
-    /// Whether both are equal, part by part.
-    pub fn same(&self, other: &Reward) -> bool
-        ensures { IsTrue result ↔ (self.now ≡ other.now) }
-    {
+impl Same for Reward {
+    fn same(&self, other: &Reward) -> bool {
         self.name.same(&other.name) && self.atomic == other.atomic && self.span == other.span
     }
 }
 
-fn same_slots(a: &[Slot], b: &[Slot]) -> bool
-    ensures { IsTrue result ↔ (a.now ≡ b.now) }
-{
-    if a.len() != b.len() {
-        return false;
-    }
-    for (at, slot) in a.iter().enumerate() {
-        if !slot.same(&b[at]) {
-            return false;
-        }
-    }
-    true
-}
-
-impl Part {
-    /// Whether both are equal, part by part.
-    pub fn same(&self, other: &Part) -> bool
-        ensures { IsTrue result ↔ (self.now ≡ other.now) }
-    {
+impl Same for Part {
+    fn same(&self, other: &Part) -> bool {
         self.leaf == other.leaf
             && self.first == other.first
             && self.atomic.get().same(other.atomic.get())
-            && same_slots(self.slots.as_slice(), other.slots.as_slice())
+            && self.slots.same(&other.slots)
     }
 }

@@ -1,5 +1,8 @@
-ghost use Rattle.std.specs.Prelude.{◌≡◌, ◌↔◌, IsTrue};
+//! The path of a leaf, as text.
 
+ghost use Rattle.std.specs.Prelude.{◌≡◌};
+
+use san_base::Same;
 use sqlite_items::Items;
 use std::marker::Model;
 
@@ -33,11 +36,10 @@ impl Path {
     {
         self.bytes.as_slice()
     }
+}
 
-    /// Whether both are equal, part by part.
-    pub fn same(&self, other: &Path) -> bool
-        ensures { IsTrue result ↔ (self.now ≡ other.now) }
-    {
+impl Same for Path {
+    fn same(&self, other: &Path) -> bool {
         self.as_bytes() == other.as_bytes()
     }
 }

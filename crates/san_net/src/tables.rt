@@ -1,3 +1,5 @@
+//! The tables of a network: the leaves that have a place, the leaf of an activity.
+
 ghost use Rattle.std.specs.Prelude.{◌≡◌, ◌<◌, ◌∷◌, ◌++◌, ℕ, [], length, map, replicate, IfOk, OnOk, slice_get, slice_index, slice_index_or, slice_set, Some};
 ghost use Rattle.san_net.specs.Apart.{AreApart};
 ghost use Rattle.san_net.specs.Laid.{EachPart, place_of, places_of};
@@ -6,15 +8,6 @@ ghost use Rattle.san_net.specs.Tables.{IsNoted, importers_of, leaves_of_acts};
 use crate::part::{Part, Slot};
 use san_base::{LeafId, Shared};
 use std::alloc::{AllocError, Global};
-
-fn place_of(slot: Slot) -> u32
-    ensures { result ≡ place_of slot }
-{
-    match slot {
-        Slot::Private(place) => place.0,
-        Slot::Shared(place) => place.0,
-    }
-}
 
 /// Puts a leaf behind those of a place.
 fn push_at(table: &mut Vec<Vec<LeafId>>, place: usize, leaf: LeafId) -> Result<(), AllocError>
@@ -38,12 +31,12 @@ fn note(table: &mut Vec<Vec<LeafId>>, slots: &[Slot], leaf: LeafId) -> Result<()
         table.new.items) leaf (map place_of slots.now)) }
 {
     'slots: for slot in slots {
-        push_at(table, place_of(*slot) as usize, leaf)?;
+        push_at(table, slot.place().0 as usize, leaf)?;
     }
     Ok(())
 }
 
-/// So many empty lists.
+/// `places` empty lists.
 fn empty_lists(alloc: Global, places: usize) -> Result<Vec<Vec<LeafId>>, AllocError>
     ensures { IfOk result (λ v. map (λ x. x.items) v.items ≡ replicate places []) }
 {

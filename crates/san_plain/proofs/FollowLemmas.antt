@@ -12,8 +12,7 @@ use Rattle.san_reward.specs.Running.{Running, rates_in, rates_of, with_all_rates
 use Rattle.san_reward.proofs.RatesSet.{rates_there}
 use Rattle.san_plain.specs.Following.{AreNew, DiffersIn, Follows, FollowsPlaces, differs_at, rates_at}
 use Rattle.san_plain.proofs.RateLemmas.{new_stays, part_at, same_of}
-use Rattle.san_seq.specs.Known.{CaughtUp}
-use Rattle.san_seq.proofs.TouchLemmas.{gather_eq}
+use Rattle.san_net.proofs.CellLemmas.{CaughtUp, gather_eq}
 
 -- places have the same values in both markings
 abbrev HaveSame : List ℕ → List ℕ → List ℕ → Type 0

@@ -20,10 +20,10 @@ use Rattle.san_net.proofs.TableLemmas.{got_at}
 use Rattle.san_report.specs.Lines.{leaf_of}
 use Rattle.san_plain.specs.Accounts.{Reaches, impulses_by, impulses_of}
 use Rattle.san_seq.specs.Reaching.{impulses_at}
-use Rattle.san_seq.specs.Telling.{IsActOf, act_of, first_of}
+use Rattle.san_net.specs.Tables.{IsActOf, act_of, first_of}
 use Rattle.san_seq.proofs.NextLemmas.{cut}
-use Rattle.san_seq.proofs.PartLemmas.{part_is, places_are}
-use Rattle.san_seq.proofs.RowLemmas.{acts_within}
+use Rattle.san_net.proofs.PartLemmas.{part_is, places_are}
+use Rattle.san_net.proofs.FlatLemmas.{acts_within}
 
 front : (a : ℕ) (x : LeafId) (rest : List LeafId) (k : ℕ) → k < a → slice_get (replicate a x ++ rest) k ≡ Some x
 front zero x rest k h = absurd (omega (arith, h))

@@ -28,7 +28,8 @@ use Rattle.san_plain.proofs.StepLemmas.{Completion, completes, fits_at}
 use Rattle.san_seq.specs.FlatRun.{On, Run, after_step, marking_of, step_of}
 use Rattle.san_seq.specs.Overs.{limits_in}
 use Rattle.san_seq.specs.Reaching.{IsInTime, IsTheLaws, impulses_at}
-use Rattle.san_seq.specs.Telling.{act_of, event_in, stepped_of}
+use Rattle.san_net.specs.Tables.{act_of}
+use Rattle.san_seq.specs.Telling.{event_in, stepped_of}
 use Rattle.san_seq.specs.declared.steps.Stepped.TheVariants as stepped
 use Rattle.san_seq.proofs.ReachLemmas.{events_are_laws, events_in_time}
 use Rattle.san_base.specs.declared.ending.Ending.TheVariants as ending

@@ -7,7 +7,7 @@ ghost use Rattle.san_plain.specs.Accounts.{Reaches, impulses_of, opened_account,
 
 use crate::following::follow;
 use crate::impulses::count_impulses;
-use san_base::{Event, NoMemory, PlaceId, Tick};
+use san_base::{Event, NoMemory, Tick};
 use san_net::Flat;
 use san_reward::{Tally, Worth};
 use std::alloc::Global;
@@ -36,17 +36,6 @@ impl<'a> Model for Account<'a> {
     ghost invariant = { λ a. IsAccount (record { network = a.flat.now; running = a.tally; marking = a.marking.items }) };
 }
 
-/// A copy of the initial marking.
-fn initial(alloc: Global, flat: &Flat) -> Result<Vec<u32>, NoMemory>
-    ensures { IfOk result (λ m. m.items ≡ flat.now.initial) }
-{
-    let mut marking = Vec::with_capacity(alloc, flat.places() as usize)?;
-    'places: for k in 0..flat.places() {
-        marking.push(flat.initial(PlaceId(k)))?;
-    }
-    Ok(marking)
-}
-
 impl<'a> Account<'a> {
     /// Before the first event.
     pub(crate) fn open(
@@ -58,7 +47,7 @@ impl<'a> Account<'a> {
         ensures { IfOk result (λ a. a ≡ opened_account flat.now horizon.0) }
     {
         let mut tally = Tally::open(alloc, flat, horizon)?;
-        let marking = initial(alloc, flat)?;
+        let marking = flat.initial_marking(alloc)?;
         tally.rate_all(flat, &marking);
         Ok(Account {
             flat,

@@ -1,28 +1,13 @@
 ghost use Rattle.std.specs.Prelude.{◌≡◌, ◌<◌, Some, length, map, slice_get};
-ghost use Rattle.san_net.specs.Laid.{place_of, places_of};
+ghost use Rattle.san_net.specs.Laid.{places_of};
 ghost use Rattle.san_net.specs.declared.part.Part.{Part};
 ghost use Rattle.san_reward.specs.Running.{rates_in, terms_in, with_all_rates};
 ghost use Rattle.san_plain.specs.Following.{DiffersIn};
-ghost use Rattle.san_seq.specs.Known.{CaughtUp};
-ghost use Rattle.san_seq.specs.Views.{IsOver};
 
-use crate::cells::place_of;
 use crate::rating::{rate_leaf, rate_others};
 use san_base::LeafId;
-use san_net::{Flat, Slot};
+use san_net::{Flat, copy_cells};
 use san_reward::Tally;
-
-/// Gives a kept marking a leaf's values.
-fn catch_up(slots: &[Slot], marking: &[u32], kept: &mut Vec<u32>)
-    requires over { IsOver (map place_of slots.now) marking.now }
-    requires sized { length kept.old.items ≡ length marking.now }
-    ensures { CaughtUp (map place_of slots.now) marking.now kept.old.items kept.new.items }
-{
-    'cells: for k in 0..slots.len() {
-        let at = place_of(slots[k]) as usize;
-        kept[at] = marking[at];
-    }
-}
 
 /// Goes on from the kept marking to one that differs in a leaf's places alone: the rates are those
 /// in it, and it is kept. Rates are evaluated for the leaves alone of which a place has another
@@ -48,6 +33,6 @@ pub(crate) fn follow(
     let part = flat.part(leaf).get();
     if rate_others(tally, flat, leaf, kept, marking) {
         rate_leaf(tally, flat, leaf, marking);
-        catch_up(part.slots.as_slice(), marking, kept);
+        copy_cells(part.slots.as_slice(), marking, kept);
     }
 }

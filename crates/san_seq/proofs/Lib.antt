@@ -1,6 +1,5 @@
 pub mod LeafViewLemmas
 pub mod NextLemmas
-pub mod PartLemmas
 pub mod ValuesLemmas
 pub mod CompletionLemmas
 pub mod AskingLemmas
@@ -18,7 +17,6 @@ pub mod RangeLemmas
 pub mod RunningLemmas
 pub mod SteppingLemmas
 pub mod OpeningLemmas
-pub mod FlagLemmas
 pub mod TouchLemmas
 pub mod OpenLemmas
 pub mod WithinLemmas

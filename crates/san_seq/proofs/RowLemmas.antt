@@ -30,24 +30,6 @@ front_one : (rs : List Row) (r : Row) (rest : Renewal) → in_front rs (and_rest
 front_one rs r (AllFresh ss) = ap AllFresh (appended rs r ss)
 front_one rs r (FaultAt j k trap) = refl
 
--- the activities of one part more
-acts_more : (ps : List Part) (j : ℕ) (p : Part) → slice_get ps j ≡ Some p → acts_of (take j ps) + length p.atomic.acts ≤ acts_of ps
-acts_more [] j p is = cc
-acts_more (q ∷ qs) zero p is =
-    let all : acts_of (q ∷ qs) ≡ length q.atomic.acts + acts_of qs = sum_by-cons (λ x. length x.atomic.acts) q qs in
-    let none : acts_of (take zero (q ∷ qs)) ≡ 0 = refl in
-    omega (arith, all, none, ap (λ (x : Part). length x.atomic.acts) (some_same q p is))
-  where
-    some_same : (x y : Part) → (let o : Option Part = Some x in o) ≡ Some y → x ≡ y
-    some_same x y e = cc
-acts_more (q ∷ qs) (suc j) p is =
-    let all : acts_of (q ∷ qs) ≡ length q.atomic.acts + acts_of qs = sum_by-cons (λ x. length x.atomic.acts) q qs in
-    let front : acts_of (take (suc j) (q ∷ qs)) ≡ length q.atomic.acts + acts_of (take j qs) = sum_by-cons (λ x. length x.atomic.acts) q (take j qs) in
-    omega (arith, all, front, acts_more qs j p is)
-
-pub acts_within : (n : Network) (j : ℕ) (p : Part) → IsNetwork n → slice_get n.parts j ≡ Some p → p.first.0 + length p.atomic.acts ≤ acts_of n.parts
-acts_within n j p known is = omega (arith, acts_more n.parts j p is, known.numbered.acts j p is)
-
 -- a part's renewal is its leaf's in the network
 pub part_renewed : (n : Network) (draw : ℕ → ℕ → ℕ) (limits : law.Limits) (s : State) (j : ℕ) (p : Part) (time : ℕ) (stable m : List ℕ) (r : Row)
     → slice_get n.parts j ≡ Some p → s.time ≡ time → s.stable ≡ stable → s.marking ≡ m

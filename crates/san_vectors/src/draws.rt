@@ -1,6 +1,6 @@
 //! Draws, against a ChaCha20 that was written for itself after RFC 8439.
 
-use san_draw::{Draws, Streams, choose, pick};
+use san_draw::{Draws, Streams, pick};
 use std::test::Fail;
 
 const FIRST: u64 = 0x903df1a0ade0b876;
@@ -42,11 +42,6 @@ fn draws(rt: HostRuntime) -> Result<(), Fail> {
 
 /// The first draw is about 0.5634 of 2^64, the second about 0.1591.
 #[test]
-fn choices(rt: HostRuntime) {
+fn picks(rt: HostRuntime) {
     assert_eq!(rt; (pick(FIRST, 10), pick(SECOND, 10)), (5, 1));
-    assert_eq!(rt; (choose(&[5, 5], FIRST), choose(&[5, 5], SECOND)), (1, 0));
-    assert_eq!(rt;
-        (choose(&[0, 3], SECOND), choose(&[6, 0, 4], FIRST)),
-        (1, 0)
-    );
 }

@@ -1,7 +1,7 @@
--- The least of a list of keys, by key and then by place.
+-- The least of a list of keys, by key and then by index.
 use Rattle.std.specs.Prelude.{ℕ, zero, suc, ◌+◌, ◌-◌, ◌^◌, ◌≡◌, ◌<◌, ◌≤◌, ◌≢◌, nat_lt, List, [], ◌∷◌, Option, Some, None, if◌then◌else◌, slice_index_or, take, drop, length}
 
--- a key and its place, or no key
+-- a key and its index, or no key
 abbrev pub Won : Type 0
 Won = Option (ℕ × ℕ)
 
@@ -11,7 +11,7 @@ sooner None b = b
 sooner (Some a) None = Some a
 sooner (Some a) (Some b) = if nat_lt b.0 a.0 then Some b else Some a
 
--- the key at a place
+-- the key at an index
 abbrev pub leaf : ℕ → Option ℕ → Won
 leaf i None = None
 leaf i (Some k) = Some (k, i)

@@ -1,9 +1,11 @@
+//! The winner tree: keys, the matches between them, and their winners.
+
 ghost use Rattle.std.specs.Prelude.{◌≡◌, ℕ, ◌+◌, ◌-◌, ◌<◌, ◌≤◌, ◌^◌, ◌≢◌, length, IfOk, slice_index_or, replicate, None};
 ghost use Rattle.san_winner.specs.Least.{sooner, leaf, span, IsTree, IsTreeBut};
 
 use std::alloc::{AllocError, Global};
 
-/// A key and its place.
+/// A key and its index, if there is one.
 pub(crate) type Won = Option<(u64, usize)>;
 
 /// The winner of two: the lesser key, of equal keys the first.

@@ -1,3 +1,5 @@
+//! A fixed number of keys with the least of them at hand.
+
 ghost use Rattle.std.specs.Prelude.{◌≡◌, ◌<◌, ◌≤◌, ◌^◌, length, IfOk, slice_index_or, slice_set, replicate, None};
 ghost use Rattle.san_winner.specs.Least.{least_from, least_between};
 
@@ -6,7 +8,7 @@ use san_base::NoMemory;
 use std::alloc::Global;
 use std::marker::Model;
 
-/// A fixed number of places, each with a key or none.
+/// A fixed number of indices, each with a key or none.
 #[derive(Debug, Drop)]
 pub struct Winners {
     keys: Vec<Option<u64>>,
@@ -26,7 +28,7 @@ impl Model for Winners {
 }
 
 impl Winners {
-    /// The least key and its place, of equal keys the first place's.
+    /// The least key and its index, of equal keys the first.
     #[tactic(auto, using(crate::proofs::TreeLemmas::top))]
     pub fn least(&self) -> Option<(u64, usize)>
         ensures { result ≡ least_from 0 self.now }
@@ -34,7 +36,7 @@ impl Winners {
         root(self.nodes.as_slice())
     }
 
-    /// The same among the places from `lo` to `hi`.
+    /// The least key and its index from `lo` to before `hi`.
     #[tactic(auto, using(crate::proofs::TreeLemmas::part))]
     pub fn least_between(&self, lo: usize, hi: usize) -> Option<(u64, usize)>
         requires lo { lo ≤ hi }
@@ -44,7 +46,7 @@ impl Winners {
         between(self.nodes.as_slice(), self.size, lo, hi)
     }
 
-    /// The key at a place.
+    /// The key at an index, if it has one.
     pub fn get(&self, at: usize) -> Option<u64>
         requires at { at < length self.now }
         ensures { result ≡ slice_index_or self.now at None }
@@ -52,14 +54,14 @@ impl Winners {
         key_at(self.keys.as_slice(), at)
     }
 
-    /// How many places there are.
+    /// The number of indices.
     pub fn len(&self) -> usize
         ensures { result ≡ length self.now }
     {
         self.keys.len()
     }
 
-    /// Gives a place a key, or none.
+    /// Gives an index a key, or takes it.
     pub fn set(&mut self, at: usize, key: Option<u64>)
         requires at { at < length self.old }
         ensures { self.new ≡ slice_set self.old at key }
@@ -68,7 +70,7 @@ impl Winners {
         put(self.nodes.as_mut_slice(), self.size, at, key);
     }
 
-    /// So many places without keys.
+    /// `count` indices without keys.
     pub fn open(alloc: Global, count: usize) -> Result<Winners, NoMemory>
         requires count { count < 2 ^ 60 }
         ensures { IfOk result (λ s. s ≡ replicate count None) }

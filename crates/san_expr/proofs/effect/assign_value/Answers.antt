@@ -7,10 +7,10 @@ use Rattle.san_expr.specs.Value.{value_of}
 use Rattle.san_expr.proofs.ComposeLemmas.{meets_then}
 use Rattle.san_expr.proofs.effect.assign_value.Goals as goal
 
-pub returns-in-Ok : goal.returns-in-Ok
-returns-in-Ok g c =
+pub returns : goal.returns
+returns g c =
     let sight = g.V.Marked.sight in
-    let fits : SFits w64 c.in-Ok.x = search rules in
-    let x = to_z-of_z w64 c.in-Ok.x fits in
-    let read = subst (λ (a : Result ℤ Trap). Meets (sight c.args.view.now) (sight c.eval.new.view) (value_of c.args.e.now) a) c.in-Ok.is c.eval.ensures.meets in
-    meets_then (sight c.args.view.now) (sight c.eval.new.view) (sight c.assign.new.view) (value_of c.args.e.now) (assign_at c.args.place) c.in-Ok.x c.assign.result read (rw x at c.assign.ensures)
+    let fits : SFits w64 c.in_ok-x.x = search rules in
+    let x = to_z-of_z w64 c.in_ok-x.x fits in
+    let read = subst (λ (a : Result ℤ Trap). Meets (sight c.args.view.now) (sight c.eval.new.view) (value_of c.args.e.now) a) c.in_ok-x.was c.eval.ensures.meets in
+    meets_then (sight c.args.view.now) (sight c.eval.new.view) (sight c.assign.new.view) (value_of c.args.e.now) (assign_at c.args.place) c.in_ok-x.x c.assign.result read (rw x at c.assign.ensures)

@@ -1,5 +1,6 @@
 use Rattle.std.proofs.Common.{rules, ◌∙◌, ap, sym, subst, not, Ok, ℤ, SFits, w64}
 use Rattle.std.proofs.lemmas.Int.{to_z-of_z}
+use Rattle.std.proofs.lemmas.Result.{err_from_is_err_and}
 use Rattle.san_expr.specs.Value.{is_decided, truth, is_zero, value_of}
 use Rattle.san_expr.specs.Meets.{Evaluates}
 use Rattle.san_expr.proofs.ComposeLemmas.{evaluates_read}
@@ -15,45 +16,46 @@ returns-in-Place g t c =
     subst (λ (z : ℤ). Evaluates s0 s1 (value_of c.args.e.now) (Ok z)) (sym (to_z-of_z w64 c.from.result fits ∙ c.from.ensures))
     (evaluates_place s0 s1 c.args.e.now c.in-Place.place _ c.in-Place.is read)
 
-pub returns-in-Ok : goal.returns-in-Ok
-returns-in-Ok g t c =
+pub returns-in_ok-at-in-Cell : goal.returns-in_ok-at-in-Cell
+returns-in_ok-at-in-Cell g t c =
     let sight = g.V.Marked.sight in
-    let fits : SFits w64 c.in-Ok.x = search rules in
-    let x = to_z-of_z w64 c.in-Ok.x fits in
+    let fits : SFits w64 c.in_ok-at-in-Cell.at = search rules in
+    let x = to_z-of_z w64 c.in_ok-at-in-Cell.at fits in
     evaluates_cell (sight c.args.view.now) (sight c.eval.new.view) (sight c.read_at.new.view) c.args.e.now c.in-Cell.index c.get.result.now c.in-Cell.first c.in-Cell.length
-    c.in-Ok.x c.eval.result c.read_at.result c.in-Cell.is c.get.ensures c.in-Ok.is c.eval.ensures (rw x at c.read_at.ensures)
+    c.in_ok-at-in-Cell.at c.eval.result c.read_at.result c.in-Cell.is c.get.ensures c.in_ok-at-in-Cell.was c.eval.ensures (rw x at c.read_at.ensures)
 
 pub returns-then-is_decided : goal.returns-then-is_decided
 returns-then-is_decided g t c =
     let sight = g.V.Marked.sight in
-    let fits : SFits w64 c.in-Ok-eval-3.x = search rules in
-    let x = to_z-of_z w64 c.in-Ok-eval-3.x fits in
+    let fits : SFits w64 c.in_ok-x-in-Binary.x = search rules in
+    let x = to_z-of_z w64 c.in_ok-x-in-Binary.x fits in
     let decided = ap (is_decided c.in-Binary.op) (sym x) ∙ sym c.is_decided.ensures ∙ c.if-is_decided.true in
     let truth_fits : SFits w64 c.truth_of-then-is_decided.result = search rules in
     evaluates_binary (sight c.args.view.now) (sight c.eval-in-Binary.new.view) (sight c.eval-in-Binary.new.view) c.args.e.now c.in-Binary.left c.in-Binary.right c.get-in-Binary.result.now
-    c.in-Binary.op c.in-Ok-eval-3.x c.eval-in-Binary.result _ c.in-Binary.is c.get-in-Binary.ensures c.in-Ok-eval-3.is c.eval-in-Binary.ensures
-    (rest_decided (sight c.eval-in-Binary.new.view) c.in-Binary.op c.in-Binary.right c.in-Ok-eval-3.x _ decided (ap Ok (to_z-of_z w64 c.truth_of-then-is_decided.result truth_fits ∙ c.truth_of-then-is_decided.ensures ∙ ap truth (c.holds.ensures ∙ ap (λ (z : ℤ). not (is_zero z)) x))))
+    c.in-Binary.op c.in_ok-x-in-Binary.x c.eval-in-Binary.result _ c.in-Binary.is c.get-in-Binary.ensures c.in_ok-x-in-Binary.was c.eval-in-Binary.ensures
+    (rest_decided (sight c.eval-in-Binary.new.view) c.in-Binary.op c.in-Binary.right c.in_ok-x-in-Binary.x _ decided (ap Ok (to_z-of_z w64 c.truth_of-then-is_decided.result truth_fits ∙ c.truth_of-then-is_decided.ensures ∙ ap truth (c.holds.ensures ∙ ap (λ (z : ℤ). not (is_zero z)) x))))
 
-pub returns-in-Ok-eval-4 : goal.returns-in-Ok-eval-4
-returns-in-Ok-eval-4 g t c =
+pub returns-in_ok-y-in-Binary : goal.returns-in_ok-y-in-Binary
+returns-in_ok-y-in-Binary g t c =
     let sight = g.V.Marked.sight in
-    let fits : SFits w64 c.in-Ok-eval-3.x = search rules in
-    let x = to_z-of_z w64 c.in-Ok-eval-3.x fits in
-    let y_fits : SFits w64 c.in-Ok-eval-4.y = search rules in
-    let y = to_z-of_z w64 c.in-Ok-eval-4.y y_fits in
+    let fits : SFits w64 c.in_ok-x-in-Binary.x = search rules in
+    let x = to_z-of_z w64 c.in_ok-x-in-Binary.x fits in
+    let y_fits : SFits w64 c.in_ok-y-in-Binary.y = search rules in
+    let y = to_z-of_z w64 c.in_ok-y-in-Binary.y y_fits in
     let undecided = ap (is_decided c.in-Binary.op) (sym x) ∙ sym c.is_decided.ensures ∙ c.if-is_decided.false in
     evaluates_binary (sight c.args.view.now) (sight c.eval-in-Binary.new.view) (sight c.eval-else-is_decided.new.view) c.args.e.now c.in-Binary.left c.in-Binary.right c.get-in-Binary.result.now
-    c.in-Binary.op c.in-Ok-eval-3.x c.eval-in-Binary.result c.apply.result c.in-Binary.is c.get-in-Binary.ensures c.in-Ok-eval-3.is c.eval-in-Binary.ensures
-    (rest_answers (sight c.eval-in-Binary.new.view) (sight c.eval-else-is_decided.new.view) c.in-Binary.op c.in-Binary.right c.get-else-is_decided.result.now c.in-Ok-eval-3.x c.in-Ok-eval-4.y
-    c.eval-else-is_decided.result c.apply.result undecided c.get-else-is_decided.ensures c.in-Ok-eval-4.is (rw (x, y) at c.apply.ensures) c.eval-else-is_decided.ensures)
+    c.in-Binary.op c.in_ok-x-in-Binary.x c.eval-in-Binary.result c.apply.result c.in-Binary.is c.get-in-Binary.ensures c.in_ok-x-in-Binary.was c.eval-in-Binary.ensures
+    (rest_answers (sight c.eval-in-Binary.new.view) (sight c.eval-else-is_decided.new.view) c.in-Binary.op c.in-Binary.right c.get-else-is_decided.result.now c.in_ok-x-in-Binary.x c.in_ok-y-in-Binary.y
+    c.eval-else-is_decided.result c.apply.result undecided c.get-else-is_decided.ensures c.in_ok-y-in-Binary.was (rw (x, y) at c.apply.ensures) c.eval-else-is_decided.ensures)
 
-pub returns-in-Err-eval-4 : goal.returns-in-Err-eval-4
-returns-in-Err-eval-4 g t c =
+pub returns-in_err-y-in-Binary : goal.returns-in_err-y-in-Binary
+returns-in_err-y-in-Binary g t c =
     let sight = g.V.Marked.sight in
-    let fits : SFits w64 c.in-Ok-eval-3.x = search rules in
-    let x = to_z-of_z w64 c.in-Ok-eval-3.x fits in
+    let fits : SFits w64 c.in_ok-x-in-Binary.x = search rules in
+    let x = to_z-of_z w64 c.in_ok-x-in-Binary.x fits in
     let undecided = ap (is_decided c.in-Binary.op) (sym x) ∙ sym c.is_decided.ensures ∙ c.if-is_decided.false in
-    evaluates_binary (sight c.args.view.now) (sight c.eval-in-Binary.new.view) (sight c.eval-else-is_decided.new.view) c.args.e.now c.in-Binary.left c.in-Binary.right c.get-in-Binary.result.now
-    c.in-Binary.op c.in-Ok-eval-3.x c.eval-in-Binary.result _ c.in-Binary.is c.get-in-Binary.ensures c.in-Ok-eval-3.is c.eval-in-Binary.ensures
-    (rest_traps (sight c.eval-in-Binary.new.view) (sight c.eval-else-is_decided.new.view) c.in-Binary.op c.in-Binary.right c.get-else-is_decided.result.now c.in-Ok-eval-3.x c.in-Err-eval-4.trap
-    c.eval-else-is_decided.result undecided c.get-else-is_decided.ensures c.in-Err-eval-4.is c.eval-else-is_decided.ensures)
+    let p = err_from_is_err_and c.from_residual-in_err-y-in-Binary.result c.from_residual-in_err-y-in-Binary.ensures.1 in
+    rw (p.1, p.2) (evaluates_binary (sight c.args.view.now) (sight c.eval-in-Binary.new.view) (sight c.eval-else-is_decided.new.view) c.args.e.now c.in-Binary.left c.in-Binary.right c.get-in-Binary.result.now
+    c.in-Binary.op c.in_ok-x-in-Binary.x c.eval-in-Binary.result _ c.in-Binary.is c.get-in-Binary.ensures c.in_ok-x-in-Binary.was c.eval-in-Binary.ensures
+    (rest_traps (sight c.eval-in-Binary.new.view) (sight c.eval-else-is_decided.new.view) c.in-Binary.op c.in-Binary.right c.get-else-is_decided.result.now c.in_ok-x-in-Binary.x c.in_err-y-in-Binary.field-0.0
+    c.eval-else-is_decided.result undecided c.get-else-is_decided.ensures c.in_err-y-in-Binary.was c.eval-else-is_decided.ensures))

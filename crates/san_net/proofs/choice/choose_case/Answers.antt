@@ -1,13 +1,15 @@
+use Rattle.std.proofs.lemmas.Result.{err_from_is_err_and}
 use Rattle.san_net.proofs.ChoiceLemmas.{chooses, choice_traps}
 use Rattle.san_net.proofs.choice.choose_case.Goals as goal
 
-pub returns-in-Ok : goal.returns-in-Ok
-returns-in-Ok g c =
+pub returns : goal.returns
+returns g c =
     let sight = g.V.Marked.sight in
-    chooses c.args.u c.args.cases.now (sight c.args.view.now) (sight c.total.new.view) (sight c.find_by.new.view) c.in-Ok.sum c.total.result c.find_by.result
-    c.in-Ok.is c.total.ensures c.find_by.ensures
+    chooses c.args.u c.args.cases.now (sight c.args.view.now) (sight c.total.new.view) (sight c.find_by.new.view) c.in_ok-sum.sum c.total.result c.find_by.result
+    c.in_ok-sum.was c.total.ensures c.find_by.ensures
 
-pub returns-in-Err : goal.returns-in-Err
-returns-in-Err g c =
+pub returns-in_err-sum : goal.returns-in_err-sum
+returns-in_err-sum g c =
     let sight = g.V.Marked.sight in
-    choice_traps c.args.u c.args.cases.now (sight c.args.view.now) (sight c.total.new.view) c.in-Err.trap c.total.result c.in-Err.is c.total.ensures
+    let p = err_from_is_err_and c.from_residual.result c.from_residual.ensures.1 in
+    rw (p.1, p.2) (choice_traps c.args.u c.args.cases.now (sight c.args.view.now) (sight c.total.new.view) c.in_err-sum.field-0.0 c.total.result c.in_err-sum.was c.total.ensures)

@@ -1,5 +1,6 @@
 use Rattle.std.proofs.Common.{◌≡◌, ◌∙◌, ◌+◌, ℕ, sym, subst, arith, drop, length, Ok}
 use Rattle.std.proofs.lemmas.List.{drop_all}
+use Rattle.std.proofs.lemmas.Result.{err_from_is_err_and}
 use Rattle.san_expr.specs.Meets.{Evaluates}
 use Rattle.san_net.specs.Below.{case_below}
 use Rattle.san_net.specs.Weighing.{found_from}
@@ -12,17 +13,18 @@ returns-in-None g c =
     let now = g.V.Marked.sight c.loop-at.view in
     let at = rest_at c.args.cases.now c.loop-at.at c.index-cases-at.result c.loop-at-test.true c.index-cases-at.is in
     let finds = subst (Finds was now c.args.cases.now c.args.picked c.loop-at.left c.loop-at.at) at c.loop-at.invariant.finds in
-    finds_here was now (g.V.Marked.sight c.weight.new.view) c.args.cases.now (drop (c.loop-at.at + 1) c.args.cases.now) c.args.picked c.loop-at.left c.loop-at.at c.in-Ok.weight
-    c.index-cases-at.result c.weight.result finds c.in-Ok.is (sym c.passed.ensures ∙ c.in-None.is) c.weight.ensures
+    finds_here was now (g.V.Marked.sight c.weight.new.view) c.args.cases.now (drop (c.loop-at.at + 1) c.args.cases.now) c.args.picked c.loop-at.left c.loop-at.at c.in_ok-weight.weight
+    c.index-cases-at.result c.weight.result finds c.in_ok-weight.was (sym c.passed.ensures ∙ c.in-None.is) c.weight.ensures
 
-pub returns-in-Err : goal.returns-in-Err
-returns-in-Err g c =
+pub returns-in_err-weight : goal.returns-in_err-weight
+returns-in_err-weight g c =
     let was = g.V.Marked.sight c.args.view.now in
     let now = g.V.Marked.sight c.loop-at.view in
     let at = rest_at c.args.cases.now c.loop-at.at c.index-cases-at.result c.loop-at-test.true c.index-cases-at.is in
     let finds = subst (Finds was now c.args.cases.now c.args.picked c.loop-at.left c.loop-at.at) at c.loop-at.invariant.finds in
-    finds_trap was now (g.V.Marked.sight c.weight.new.view) c.args.cases.now (drop (c.loop-at.at + 1) c.args.cases.now) c.args.picked c.loop-at.left c.loop-at.at
-    c.index-cases-at.result c.in-Err.trap c.weight.result finds c.in-Err.is c.weight.ensures
+    let p = err_from_is_err_and c.from_residual.result c.from_residual.ensures.1 in
+    rw (p.1, p.2) (finds_trap was now (g.V.Marked.sight c.weight.new.view) c.args.cases.now (drop (c.loop-at.at + 1) c.args.cases.now) c.args.picked c.loop-at.left c.loop-at.at
+    c.index-cases-at.result c.in_err-weight.field-0.0 c.weight.result finds c.in_err-weight.was c.weight.ensures)
 
 pub loop-at-preserved : goal.loop-at-preserved
 loop-at-preserved g c =
@@ -33,8 +35,8 @@ loop-at-preserved g c =
     let below = first_below case_below c.args.cases.now c.loop-at.at _ _ c.index-cases-at.result c.loop-at-test.true c.index-cases-at.is c.loop-at.invariant.places c.loop-at.invariant.below in
     record {
       finds =
-          finds_more was now (g.V.Marked.sight c.weight.new.view) c.args.cases.now (drop (c.loop-at.at + 1) c.args.cases.now) c.args.picked c.loop-at.left c.in-Some.rest c.loop-at.at c.in-Ok.weight
-          c.index-cases-at.result c.weight.result finds c.in-Ok.is (sym c.passed.ensures ∙ c.in-Some.is) c.weight.ensures;
+          finds_more was now (g.V.Marked.sight c.weight.new.view) c.args.cases.now (drop (c.loop-at.at + 1) c.args.cases.now) c.args.picked c.loop-at.left c.in-Some.rest c.loop-at.at c.in_ok-weight.weight
+          c.index-cases-at.result c.weight.result finds c.in_ok-weight.was (sym c.passed.ensures ∙ c.in-Some.is) c.weight.ensures;
       places = c.weight.ensures.meets.places ∙ c.loop-at.invariant.places;
       below = below.1;
     }

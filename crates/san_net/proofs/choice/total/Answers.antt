@@ -1,17 +1,19 @@
 use Rattle.std.proofs.Common.{◌∙◌, ◌+◌, sym, subst, drop, Option, ℕ}
 use Rattle.std.proofs.lemmas.List.{drop_all}
+use Rattle.std.proofs.lemmas.Result.{err_from_is_err_and}
 use Rattle.san_net.specs.Below.{case_below}
 use Rattle.san_net.proofs.TurnLemmas.{Sums, sums_more, sums_trap, sums_end, rest_at, first_below}
 use Rattle.san_net.proofs.choice.total.Goals as goal
 
-pub returns-in-Err : goal.returns-in-Err
-returns-in-Err g c =
+pub returns-in_err-weight : goal.returns-in_err-weight
+returns-in_err-weight g c =
     let was = g.V.Marked.sight c.args.view.now in
     let now = g.V.Marked.sight c.loop-case.view in
     let at = rest_at c.args.cases.now c.loop-case.case-index c.case-item.result c.loop-case-test.true c.case-item.is in
     let sums = subst (Sums was now c.args.cases.now c.loop-case.sum) at c.loop-case.invariant.sums in
-    sums_trap was now (g.V.Marked.sight c.weight.new.view) c.args.cases.now (drop (c.loop-case.case-index + 1) c.args.cases.now) c.loop-case.sum c.case-item.result
-    c.in-Err.trap c.weight.result sums c.in-Err.is c.weight.ensures
+    let p = err_from_is_err_and c.from_residual.result c.from_residual.ensures.1 in
+    rw (p.1, p.2) (sums_trap was now (g.V.Marked.sight c.weight.new.view) c.args.cases.now (drop (c.loop-case.case-index + 1) c.args.cases.now) c.loop-case.sum c.case-item.result
+    c.in_err-weight.field-0.0 c.weight.result sums c.in_err-weight.was c.weight.ensures)
 
 pub loop-case-preserved : goal.loop-case-preserved
 loop-case-preserved g c =
@@ -25,7 +27,7 @@ loop-case-preserved g c =
     record {
       sums =
           subst (λ (n : Option ℕ). Sums was next c.args.cases.now n rest) (sym c.weigh-sum.ensures)
-          (sums_more was now next c.args.cases.now rest c.loop-case.sum c.in-Ok.weight c.case-item.result c.weight.result sums c.in-Ok.is c.weight.ensures);
+          (sums_more was now next c.args.cases.now rest c.loop-case.sum c.in_ok-weight.weight c.case-item.result c.weight.result sums c.in_ok-weight.was c.weight.ensures);
       places = c.weight.ensures.meets.places ∙ c.loop-case.invariant.places;
       below = below.1;
     }

@@ -7,12 +7,12 @@ use Rattle.san_plain.specs.Following.{FollowsPlaces, differs_at}
 use Rattle.san_plain.proofs.FollowLemmas.{all_new, all_rates, kept_caught, kept_same, none_new}
 use Rattle.san_plain.proofs.RateLemmas.{follows_on}
 use Rattle.san_plain.proofs.following.follow.Goals as goal
-use Rattle.san_seq.specs.Known.{CaughtUp}
-use Rattle.san_seq.specs.Views.{IsOver}
-use Rattle.san_seq.proofs.PartLemmas.{lies_over}
+use Rattle.san_net.specs.Cells.{IsOver}
+use Rattle.san_net.proofs.CellLemmas.{CaughtUp, copied}
+use Rattle.san_net.proofs.PartLemmas.{lies_over}
 
-pub catch_up-requires-clause-over : goal.catch_up-requires-clause-over
-catch_up-requires-clause-over c =
+pub copy_cells-requires-clause-over : goal.copy_cells-requires-clause-over
+copy_cells-requires-clause-over c =
     subst (λ (ss : List Slot). IsOver (map place_of ss) c.args.marking.now) (sym c.as_slice.ensures)
     (lies_over c.args.flat.now c.args.leaf.0 c.get-part.result.now (c.part.ensures ∙ ap (λ (p : Part). Some p) (sym c.get-part.ensures)) c.args.marking.now c.requires.marking c.is_network.ensures.laid)
 
@@ -36,8 +36,8 @@ returns-then-rate_others-clause-kept c =
     let before = c.args.kept.now.items in
     let p = c.get-part.result.now in
     let is = c.part.ensures ∙ ap (λ (q : Part). Some q) (sym c.get-part.ensures) in
-    kept_caught c.args.flat.now c.args.leaf.0 p is before m (c.requires.differs p is) c.catch_up.new.kept.items (c.requires.kept ∙ sym c.requires.marking)
-    (subst (λ (ss : List Slot). CaughtUp (map place_of ss) m before c.catch_up.new.kept.items) c.as_slice.ensures c.catch_up.ensures)
+    kept_caught c.args.flat.now c.args.leaf.0 p is before m (c.requires.differs p is) c.copy_cells.new.kept.items (c.requires.kept ∙ sym c.requires.marking)
+    (subst (λ (ss : List Slot). CaughtUp (map place_of ss) m before c.copy_cells.new.kept.items) c.as_slice.ensures c.copy_cells.ensures)
 
 pub returns-else-rate_others-clause-rates : goal.returns-else-rate_others-clause-rates
 returns-else-rate_others-clause-rates c =

@@ -1,0 +1,9 @@
+use Rattle.std.proofs.Common.{◌≡◌, ◌<◌, ℕ, length, map, slice_index}
+use Rattle.san_net.specs.Laid.{place_of}
+use Rattle.san_net.proofs.cells.gather.Given as goal
+
+abbrev pub invariant-cells : goal.invariant-cells
+invariant-cells l = record {
+  sized : length l.values ≡ length l.slots;
+  front : (i : ℕ) → i < l.k → slice_index l.values i ≡ slice_index l.marking (slice_index (map place_of l.slots) i);
+}
