@@ -1,13 +1,10 @@
 -- What stands before the first step, one after another.
-use Rattle.std.proofs.Common.{ℕ, zero, suc, ◌+◌, ◌≡◌, ◌∙◌, ap, sym, refl, arith, List, [], ◌∷◌, ◌++◌, length, map, take, Option, Some, None}
+use Rattle.std.proofs.Common.{ℕ, zero, suc, ◌+◌, ◌≡◌, ◌∙◌, ap, sym, arith, List, [], ◌∷◌, ◌++◌, length, take, Option, Some}
 use Rattle.std.specs.Prelude.{slice_get}
-use Rattle.std.specs.Option.{option_map}
 use Rattle.san_law.specs.Net as net
-use Rattle.san_law.specs.State.{blank_row, repeated}
+use Rattle.san_law.specs.State.{blank_row}
 use Rattle.san_net.specs.declared.part.Part.{Part}
-use Rattle.san_seq.specs.Clocks.{timer_in}
 use Rattle.san_seq.specs.Openings.{rows_of}
-use Rattle.san_seq.specs.declared.rows.Timer.{Timer}
 
 -- one item more is taken
 pub take_more : {A : Type 0} (xs : List A) (k : ℕ) (a : A) → slice_get xs k ≡ Some a → take k xs ++ a ∷ [] ≡ take (k + 1) xs
