@@ -2,7 +2,7 @@
 use Rattle.std.proofs.Common.{◌≡◌, ℕ, zero, suc, ◌≤◌, List, [], ◌∷◌, length, map, Result, Ok, Err, All, subst, arith}
 use Rattle.std.proofs.lemmas.List.{length-map}
 use Rattle.std.proofs.lemmas.List.Elements.{All-cons, All-nil, All-head, All-tail}
-use Rattle.san_lex.specs.Lexing.{Front, Gap, Token, Broken, Fault, Placed, front, more, with_token, grown, lex, tokens, word_of}
+use Rattle.san_lex.specs.Lexer.{Front, Gap, Token, Broken, Fault, Placed, front, more, with_token, grown, lex, tokens, word_of}
 use Rattle.san_lex.specs.Words.{AreWords}
 use Rattle.san_lex.proofs.SaidLemmas.{said_fits, fits_said}
 use Rattle.san_lex.proofs.WordLemmas.{lex_words}

@@ -5,7 +5,7 @@ use Rattle.san_lex.specs.declared.sign.Keyword.TheVariants as keyword
 use Rattle.san_lex.specs.declared.sign.Mark.TheVariants as mark
 use Rattle.san_lex.specs.declared.sign.Sign.{Sign}
 use Rattle.san_lex.specs.declared.sign.Sign.TheVariants as sign
-use Rattle.san_lex.specs.Lexing.{Word, Number, Name, Fixed}
+use Rattle.san_lex.specs.Lexer.{Word, Number, Name, Fixed}
 use Rattle.san_text.specs.declared.text.Before.TheVariants as before
 use Rattle.san_text.specs.declared.syntax.Ast.{Ast, map-Ast}
 use Rattle.san_text.specs.declared.syntax.Ast.TheViews as ast

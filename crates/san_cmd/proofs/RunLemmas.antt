@@ -1,46 +1,31 @@
 -- The answers of a run.
-use Rattle.std.proofs.Common.{ℕ, ◌≡◌, ◌⊎◌, List, Option, Some, Result, Ok, Err, inl, inr, refl, subst, sym}
+use Rattle.std.proofs.Common.{ℕ, ◌≡◌, ◌⊎◌, List, Option, Some, Ok, inl, inr, refl, subst, sym}
 use Rattle.clap.specs.Simple.{App}
 use Rattle.clap.specs.Walk.{Text}
 use Rattle.san_base.specs.declared.status.Status.{Status}
 use Rattle.san_base.specs.declared.status.Status.TheVariants as status
 use Rattle.san_net.specs.Network.{Network}
-use Rattle.san_text.specs.declared.text.Refusal.{Refusal}
 use Rattle.san_words.specs.Commands.{IsTaken}
 use Rattle.san_words.specs.Hears.{Hears, Texts, texts_of}
 use Rattle.san_words.specs.declared.orders.Heard.{Heard}
 use Rattle.san_words.specs.declared.orders.Heard.TheVariants as heard
 use Rattle.san_words.specs.declared.orders.Orders.{Orders}
-use Rattle.san_cmd.specs.Accepted.{accepted}
-use Rattle.san_cmd.specs.Answers.{IsRead, Serves}
-use Rattle.san_cmd.specs.Notes.{Concludes}
-use Rattle.san_cmd.specs.Runs.{HeardAnswers, Ran, Runs, RunsText, run_by}
-use Rattle.san_cmd.specs.Settled.{IsHindered, settled}
-use Rattle.san_cmd.proofs.NoteLemmas.{Concluded, concluded}
+use Rattle.san_serve.specs.Accepted.{accepted}
+use Rattle.san_serve.specs.Answers.{ServesBytes}
+use Rattle.san_serve.specs.Settled.{IsHindered}
+use Rattle.san_serve.specs.declared.task.Served.{Served}
+use Rattle.san_serve.specs.declared.task.Served.TheVariants as served
+use Rattle.san_cmd.specs.Runs.{Ran, Runs, run_by, run_meaning}
+use Rattle.san_cmd.specs.Settled.{settled}
+use Rattle.san_cmd.specs.inner.Heard.{HeardAnswers}
 use Rattle.san_cmd.proofs.SettledLemmas.{run_settled}
 
-pub ran_text : (o : Orders) (network : Network) (s : Status) (text : List ℕ) (old new : Option (List ℕ)) → accepted text ≡ Ok network → Ran (run_by network o) s old new → RunsText o (Ok s) text old new
-ran_text o network status.Done text old new is h = (network, is, h)
-ran_text o network status.Stopped text old new is h = (network, is, h)
-ran_text o network status.WriteFault text old new is h = (network, is, h)
-ran_text o network status.NoMemory text old new is h = h
-ran_text o network status.Words text old new is h = absurd h
-ran_text o network status.Refused text old new is h = absurd h
-ran_text o network status.ReadFault text old new is h = absurd h
-
--- a text that was read
-pub serves_text : (o : Orders) (r : Result Status Refusal) (text : List ℕ) (left rest old new : Option (List ℕ)) → IsRead left rest text → RunsText o r text old new → Serves (RunsText o) r left rest old new
-serves_text o (Ok status.Done) text left rest old new is h = (text, is, h)
-serves_text o (Ok status.Stopped) text left rest old new is h = (text, is, h)
-serves_text o (Ok status.WriteFault) text left rest old new is h = (text, is, h)
-serves_text o (Ok status.NoMemory) text left rest old new is h = h
-serves_text o (Ok status.Words) text left rest old new is h = absurd h
-serves_text o (Ok status.Refused) text left rest old new is h = absurd h
-serves_text o (Ok status.ReadFault) text left rest old new is h = absurd h
-serves_text o (Err refusal) text left rest old new is h = (inr (text, is, h.0), h.1)
-
-pub run_concluded : (o : Orders) (answer : Result Status Refusal) (s : Status) (left rest old new : Option (List ℕ)) (Told : List ℕ → Type 0) → Serves (RunsText o) answer left rest old new → Concludes answer s Told → Concluded (RunsText o) s left rest old new Told
-run_concluded o = concluded (RunsText o) (λ text old new h. h) (λ text old new h. h)
+pub ran_text : (o : Orders) (network : Network) (s : Served) (text : List ℕ) (old new : Option (List ℕ)) → accepted text ≡ Ok network → Ran (run_by network o) s old new → ServesBytes (run_meaning o) s text old new
+ran_text o network served.Done text old new is h = (network, is, h)
+ran_text o network served.Stopped text old new is h = (network, is, h)
+ran_text o network served.WriteFault text old new is h = (network, is, h)
+ran_text o network served.NoMemory text old new is h = h
+ran_text o network (served.Refused refusal) text old new is h = absurd h
 
 -- what is answered to words, by what was heard of them
 pub record Answered (app : App) (Say : Texts → Orders → Type 0) (words : List Text) (s : Status) (left rest old new : Option (List ℕ)) : Type 0 where

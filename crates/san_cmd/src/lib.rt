@@ -1,12 +1,9 @@
 //! The top calls: from the words and the bytes read to the bytes written.
 #![tactic(auto)]
 
-mod acceptance;
-mod notes;
-mod running;
-mod shown;
+mod run;
+mod show;
 
-pub use acceptance::{NotAccepted, accept};
-pub use running::{plain_words, run_words};
+pub use run::{plain_words, run_words};
 pub use san_base::Status;
-pub use shown::show_words;
+pub use show::show_words;

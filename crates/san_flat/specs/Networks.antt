@@ -3,7 +3,7 @@
 use Rattle.std.specs.Prelude.{ℕ, ◌+◌, nat_lt, if◌then◌else◌, List, [], ◌∷◌, length, map, slice_index_or}
 use Rattle.std.specs.List.{sum_by}
 use Rattle.san_check.specs.declared.model.Model.{Model}
-use Rattle.san_flat.specs.Homes.{Cells, Home, homes_in, rows_of, same}
+use Rattle.san_flat.specs.Homes.{Cells, CellHome, homes_in, rows_of, same}
 use Rattle.san_flat.specs.Texts.{path_text}
 use Rattle.san_net.specs.Network.{Network}
 use Rattle.san_net.specs.Numbering.{all_of, firsts, number, ordered, repeated}
@@ -41,10 +41,10 @@ abbrev pub leaves_in : Composition → List Instance
 leaves_in c = instances c.nodes c.root
 
 -- the homes of all cells of some leaves, in order
-abbrev pub homes_among : Composition → List Instance → List Home
+abbrev pub homes_among : Composition → List Instance → List CellHome
 homes_among c leaves = all_of (rows_of c.nodes c.root c.cells leaves)
 
-abbrev pub all_homes : Composition → List Home
+abbrev pub all_homes : Composition → List CellHome
 all_homes c = homes_among c (leaves_in c)
 
 -- the initial values of all cells of some leaves, in order
@@ -58,7 +58,7 @@ abbrev pub all_values : Composition → List ℕ
 all_values c = values_among c (leaves_in c)
 
 -- the initial value at a home: that of the first cell there
-abbrev pub value_at : List Home → List ℕ → Home → ℕ
+abbrev pub value_at : List CellHome → List ℕ → CellHome → ℕ
 value_at [] values home = 0
 value_at (h ∷ homes) [] home = 0
 value_at (h ∷ homes) (value ∷ values) home = if same home h then value else value_at homes values home
@@ -68,7 +68,7 @@ abbrev pub slot_at : ℕ → ℕ → Slot
 slot_at shared place = if nat_lt place shared then Shared (record { 0 = place }) else Private (record { 0 = place })
 
 -- the homes that are of two or more cells come first, each group by first appearance
-abbrev pub slot_of : List Home → Home → Slot
+abbrev pub slot_of : List CellHome → CellHome → Slot
 slot_of homes home = slot_at (length (repeated same homes)) (number same homes home)
 
 -- a leaf as part, with its number and that of its first activity
@@ -116,10 +116,10 @@ count_of_acts c = acts_among c (leaves_in c)
 abbrev pub leaves_of : Model → List Instance
 leaves_of m = leaves_in (composition_in m)
 
-abbrev pub homes_from : Model → List Instance → List Home
+abbrev pub homes_from : Model → List Instance → List CellHome
 homes_from m leaves = homes_among (composition_in m) leaves
 
-abbrev pub homes_of : Model → List Home
+abbrev pub homes_of : Model → List CellHome
 homes_of m = all_homes (composition_in m)
 
 abbrev pub values_from : Model → List Instance → List ℕ

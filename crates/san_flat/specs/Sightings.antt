@@ -1,7 +1,7 @@
 -- What is known of the homes of cells that were seen one by one.
 use Rattle.std.specs.Prelude.{ℕ, ◌≡◌, ◌≤◌, ◌<◌, Bool, true, false, nat_eq, if◌then◌else◌, List, [], ◌∷◌, slice_get, length, map, Option, None, Some}
 use Rattle.san_check.specs.declared.model.Model.{Model}
-use Rattle.san_flat.specs.Homes.{Home, cells_at, same, seen_as}
+use Rattle.san_flat.specs.Homes.{CellHome, cells_at, same, home_of_key}
 use Rattle.san_flat.specs.Networks.{value_at, values_in}
 use Rattle.san_flat.specs.declared.numbers.Numbers.{Numbers}
 use Rattle.san_flat.specs.declared.seen.Seen.{Seen}
@@ -10,18 +10,18 @@ use Rattle.san_net.specs.Numbering.{IsTold, firsts, number, repeated}
 use Rattle.san_tree.specs.declared.instance.Instance.{Instance}
 
 -- the different homes in order, how often each was seen, and the initial value of the first cell there
-pub record IsSeen (homes : List Home) (initial : List ℕ) (s : Seen) : Type 0 where
-  pub told : IsTold same homes (map seen_as s.homes.keys) s.counts.items
-  pub values : s.values.items ≡ map (value_at homes initial) (map seen_as s.homes.keys)
+pub record IsSeen (homes : List CellHome) (initial : List ℕ) (s : Seen) : Type 0 where
+  pub told : IsTold same homes (map home_of_key s.homes.keys) s.counts.items
+  pub values : s.values.items ≡ map (value_at homes initial) (map home_of_key s.homes.keys)
   pub even : length homes ≡ length initial
 
 -- either all fit, and were seen, or there are more different homes than a network has places
-abbrev pub Sees : Bool → List Home → List ℕ → Seen → Type 0
+abbrev pub Sees : Bool → List CellHome → List ℕ → Seen → Type 0
 Sees true homes initial s = IsSeen homes initial s × (length s.homes.keys ≤ 65536)
 Sees false homes initial s = 65536 < length (firsts same homes)
 
 -- all were seen, or there are too many
-abbrev pub SeesAll : Option Seen → List Home → List ℕ → Type 0
+abbrev pub SeesAll : Option Seen → List CellHome → List ℕ → Type 0
 SeesAll (Some s) homes initial = Sees true homes initial s
 SeesAll None homes initial = 65536 < length (firsts same homes)
 
@@ -37,11 +37,11 @@ picked true (n ∷ counts) (v ∷ values) = if nat_eq n 2 then v ∷ picked true
 picked false (n ∷ counts) (v ∷ values) = if nat_eq n 2 then picked false counts values else v ∷ picked false counts values
 
 -- each home has its number
-pub record AreNumbers (homes : List Home) (n : Numbers) : Type 0 where
-  pub all : (k : Home) → list_any (same k) (map seen_as n.homes.keys) ≡ list_any (same k) homes
-  pub places : n.places.items ≡ map (number same homes) (map seen_as n.homes.keys)
+pub record AreNumbers (homes : List CellHome) (n : Numbers) : Type 0 where
+  pub all : (k : CellHome) → list_any (same k) (map home_of_key n.homes.keys) ≡ list_any (same k) homes
+  pub places : n.places.items ≡ map (number same homes) (map home_of_key n.homes.keys)
   pub shared : n.shared ≡ length (repeated same homes)
 
 -- all homes of a row are among these
-abbrev pub AreAmong : List Home → List Home → Type 0
-AreAmong homes row = (i : ℕ) (h : Home) → slice_get row i ≡ Some h → list_any (same h) homes ≡ true
+abbrev pub AreAmong : List CellHome → List CellHome → Type 0
+AreAmong homes row = (i : ℕ) (h : CellHome) → slice_get row i ≡ Some h → list_any (same h) homes ≡ true

@@ -1,6 +1,6 @@
 ghost use Rattle.std.specs.Prelude.{◌≡◌, ◌<◌, ◌≤◌, ℕ, List, map, All, None, true, length, IfErr, IfOk, IsErrOf};
 ghost use Rattle.san_flat.specs.Flattened.{Refuses, limit_passed};
-ghost use Rattle.san_flat.specs.Homes.{Home, homes_in, same};
+ghost use Rattle.san_flat.specs.Homes.{CellHome, homes_in, same};
 ghost use Rattle.san_flat.specs.Networks.{act_count, homes_of, leaf_count, leaves_of, network_of_model, place_count, value_at, values_of};
 ghost use Rattle.san_flat.specs.Sightings.{AreNumbers, IsEven, IsSeen, Sees};
 ghost use Rattle.san_net.specs.Numbering.{ordered};
@@ -70,9 +70,9 @@ fn leaves_are_known(model: &Model)
 fn places_of(alloc: Global, seen: Seen) -> Result<(Numbers, Vec<u32>), NoMemory>
     requires few { length seen.counts.items ≤ 65536 }
     requires even { length seen.counts.items ≡ length seen.values.items }
-    ensures numbers { IfOk result (λ p. (homes : List Home) (initial : List ℕ)
+    ensures numbers { IfOk result (λ p. (homes : List CellHome) (initial : List ℕ)
         → IsSeen homes initial seen → AreNumbers homes p.0) }
-    ensures initial { IfOk result (λ p. (homes : List Home) (initial : List ℕ)
+    ensures initial { IfOk result (λ p. (homes : List CellHome) (initial : List ℕ)
         → IsSeen homes initial seen → p.1.items ≡ map (value_at homes initial) (ordered same
         homes)) }
 {

@@ -1,11 +1,11 @@
 ghost use Rattle.std.specs.Prelude.{◌≡◌, ◌≤◌, ◌+◌, ◌++◌, List, length, map, nat_eq, slice_index, true, IfOk};
 ghost use Rattle.std.specs.List.{count_by, list_any};
-ghost use Rattle.san_flat.specs.Homes.{Home, same, seen_as};
+ghost use Rattle.san_flat.specs.Homes.{CellHome, same, home_of_key};
 ghost use Rattle.san_flat.specs.Networks.{slot_at, slot_of};
 ghost use Rattle.san_flat.specs.Sightings.{AreNumbers};
 ghost use Rattle.san_net.specs.Numbering.{IsTold, number, ranked};
 
-use crate::home::CellHome;
+use crate::home::HomeKey;
 use indexmap::IndexSet;
 use san_base::{NoMemory, PlaceId};
 use san_net::Slot;
@@ -15,7 +15,7 @@ use std::alloc::Global;
 /// shared.
 #[derive(Drop)]
 pub struct Numbers {
-    pub homes: IndexSet<CellHome>,
+    pub homes: IndexSet<HomeKey>,
     pub places: Vec<u32>,
     pub shared: u32,
 }
@@ -51,12 +51,12 @@ fn ranks(alloc: Global, counts: &[u8], shared: u32) -> Result<Vec<u32>, NoMemory
 /// The numbers of homes that were seen so often.
 pub fn numbers_of(
     alloc: Global,
-    homes: IndexSet<CellHome>,
+    homes: IndexSet<HomeKey>,
     counts: &[u8],
 ) -> Result<Numbers, NoMemory>
     requires { length counts.now ≤ 65536 }
-    ensures { IfOk result (λ numbers. (cells : List Home)
-        → IsTold same cells (map seen_as homes.keys) counts.now → AreNumbers cells numbers) }
+    ensures { IfOk result (λ numbers. (cells : List CellHome)
+        → IsTold same cells (map home_of_key homes.keys) counts.now → AreNumbers cells numbers) }
 {
     let shared = repeated(counts) as u32;
     let places = ranks(alloc, counts, shared)?;
@@ -86,9 +86,9 @@ fn slot_at(shared: u32, place: u32) -> Slot
     }
 }
 
-fn place_of(numbers: &Numbers, home: &CellHome) -> u32
-    ensures { (cells : List Home) → AreNumbers cells numbers.now
-        → list_any (same (seen_as home.now)) cells ≡ true → result ≡ number same cells (seen_as
+fn place_of(numbers: &Numbers, home: &HomeKey) -> u32
+    ensures { (cells : List CellHome) → AreNumbers cells numbers.now
+        → list_any (same (home_of_key home.now)) cells ≡ true → result ≡ number same cells (home_of_key
         home.now) }
 {
     match numbers.homes.get_index_of(home) {
@@ -98,9 +98,9 @@ fn place_of(numbers: &Numbers, home: &CellHome) -> u32
 }
 
 /// The slot of a cell that was seen.
-pub fn slot_of(numbers: &Numbers, home: &CellHome) -> Slot
-    ensures { (cells : List Home) → AreNumbers cells numbers.now
-        → list_any (same (seen_as home.now)) cells ≡ true → result ≡ slot_of cells (seen_as
+pub fn slot_of(numbers: &Numbers, home: &HomeKey) -> Slot
+    ensures { (cells : List CellHome) → AreNumbers cells numbers.now
+        → list_any (same (home_of_key home.now)) cells ≡ true → result ≡ slot_of cells (home_of_key
         home.now) }
 {
     slot_at(numbers.shared, place_of(numbers, home))

@@ -1,5 +1,5 @@
 ghost use Rattle.std.specs.Prelude.{◌≡◌, ◌≤◌, ◌<◌, All, List, length, map, min, IfOk};
-ghost use Rattle.san_flat.specs.Homes.{Home, homes_in};
+ghost use Rattle.san_flat.specs.Homes.{CellHome, homes_in};
 ghost use Rattle.san_flat.specs.Networks.{acts_in, homes_of, part_of, parts_from, slot_of};
 ghost use Rattle.san_flat.specs.Sightings.{AreAmong, AreNumbers};
 ghost use Rattle.san_tree.specs.Instances.{IsWithin};
@@ -32,7 +32,7 @@ fn slots_of(
     leaf: &Instance,
 ) -> Result<Items<Slot>, NoMemory>
     requires short { IsWithin 255 leaf.now }
-    ensures { IfOk result (λ slots. (homes : List Home) → AreNumbers homes numbers.now
+    ensures { IfOk result (λ slots. (homes : List CellHome) → AreNumbers homes numbers.now
         → AreAmong homes (homes_in model.now.tree.nodes model.now.tree.root model.now.cells leaf.now)
         → slots ≡ map (slot_of homes) (homes_in model.now.tree.nodes model.now.tree.root
         model.now.cells leaf.now)) }

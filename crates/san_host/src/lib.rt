@@ -10,4 +10,4 @@ mod words;
 
 pub use sink::{StdNotes, StdSink};
 pub use source::StdSource;
-pub use words::words_of;
+pub use words::{NoWords, words_of};

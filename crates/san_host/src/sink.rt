@@ -1,3 +1,5 @@
+//! The standard streams as sinks.
+
 ghost use Rattle.std.specs.Prelude.{None};
 
 use san_base::{Put, Sink};

@@ -1,3 +1,5 @@
+//! The standard input as a source.
+
 ghost use Rattle.std.specs.Prelude.{None};
 
 use san_base::{Read, Source};

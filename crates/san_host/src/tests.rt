@@ -1,18 +1,22 @@
-//! A reader and a writer that come to their end and fail.
+//! A reader and a writer that come to their end and fail, and which bytes the writer got.
 
 use crate::{StdSink, StdSource};
 use san_base::{Put, Read, Sink, Source};
 use std::io;
 use std::test::Fail;
 
-/// Takes at most two bytes a call, and none once it took three.
+/// Takes at most two bytes a call, and none once its room is full.
 #[derive(Drop)]
-struct Narrow(usize);
+struct Narrow<'a> {
+    room: &'a mut Vec<u8>,
+    most: usize,
+}
 
-impl io::Write for Narrow {
+impl io::Write for Narrow<'_> {
     fn write(&mut self, buf: &[u8]) -> io::Result<usize> {
-        let count = buf.len().min(2).min(self.0);
-        self.0 -= count;
+        let left = self.most.saturating_sub(self.room.len());
+        let count = buf.len().min(2).min(left);
+        self.room.extend_from_slice(&buf[..count])?;
         Ok(count)
     }
 
@@ -42,10 +46,17 @@ impl io::Read for Short {
 
 #[test]
 fn streams(rt: HostRuntime) -> Result<(), Fail> {
-    let mut sink = StdSink::new(Narrow(3));
+    let mut room = Vec::new(rt.alloc());
+    let writer = Narrow {
+        room: &mut room,
+        most: 3,
+    };
+    let mut sink = StdSink::new(writer);
     assert_eq!(rt; sink.put(b"abc"), Put::Took(2));
     assert_eq!(rt; sink.put(b"c"), Put::Took(1));
     assert_eq!(rt; sink.put(b"d"), Put::Failed);
+    drop(sink);
+    assert_eq!(rt; room.as_slice(), b"abc".as_slice());
     let mut source = StdSource::new(Short(0));
     let mut buf = [0; 4];
     assert_eq!(rt; source.read(&mut buf), Read::Took(1));

@@ -1,1 +1,3 @@
+pub mod LastLineLemmas
+pub mod PageLemmas
 pub mod PutLemmas

@@ -1,2 +1,4 @@
+pub mod Closings
 pub mod Lines
+pub mod Pages
 pub mod Puts

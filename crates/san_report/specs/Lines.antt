@@ -1,5 +1,5 @@
 -- The lines of a report. Each ends with a line feed.
-use Rattle.std.specs.Prelude.{ℕ, ◌-◌, List, [], ◌∷◌, ◌++◌, codes, Option, Some, None, slice_get, unwrap_or}
+use Rattle.std.specs.Prelude.{ℕ, suc, ◌-◌, List, [], ◌∷◌, ◌++◌, codes, Option, Some, None, slice_get, unwrap_or}
 use Rattle.std.specs.Fmt.{decimal, signed_decimal}
 use Rattle.std.specs.Option.{option_map}
 use Rattle.san_base.specs.declared.ending.Event.{Event}
@@ -13,6 +13,7 @@ use Rattle.san_base.specs.declared.numbers.Tick.{Tick}
 use Rattle.san_net.specs.Network.{Network}
 use Rattle.san_net.specs.Tables.{leaves_of_acts}
 use Rattle.san_net.specs.declared.part.Part.{Part}
+use Rattle.san_net.specs.declared.part.Reward.{Reward}
 use Rattle.san_reward.specs.declared.worth.Worth.{Worth}
 use Rattle.san_reward.specs.declared.worth.Worth.TheVariants as worth
 
@@ -77,3 +78,8 @@ worth_pieces (Some (worth.Mean sum ticks)) = signed_decimal sum ∷ codes "/" �
 -- `reward NAME V`
 unfoldable pub reward_line : List ℕ → Option Worth → List ℕ
 reward_line name value = joined (codes "reward " ∷ name ∷ codes " " ∷ (worth_pieces value ++ codes "\n" ∷ []))
+
+-- the rewards' lines, numbered from one on
+abbrev pub reward_lines : List Reward → ℕ → (ℕ → Option Worth) → List ℕ
+reward_lines [] r worth = []
+reward_lines (x ∷ xs) r worth = reward_line x.name (worth r) ++ reward_lines xs (suc r) worth

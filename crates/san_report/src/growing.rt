@@ -1,3 +1,5 @@
+//! A sink in memory that grows.
+
 ghost use Rattle.std.specs.Prelude.{◌≡◌, [], Some};
 
 use san_base::{Put, Sink};

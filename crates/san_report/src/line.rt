@@ -1,3 +1,5 @@
+//! The lines of completions and of the ending.
+
 ghost use Rattle.std.specs.Prelude.{◌≡◌, ◌<◌, IfOk};
 ghost use Rattle.san_net.specs.Laid.{acts_of};
 ghost use Rattle.san_report.specs.Lines.{ending_line, event_line, stop_line, timed_line, trap_word};

@@ -1,3 +1,5 @@
+//! An activity's path.
+
 ghost use Rattle.std.specs.Prelude.{◌≡◌, ◌<◌, length};
 ghost use Rattle.san_net.specs.Laid.{acts_of};
 ghost use Rattle.san_report.specs.Lines.{act_name, leaf_of, leaf_path, name_of};

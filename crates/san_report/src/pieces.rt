@@ -1,3 +1,5 @@
+//! A line is put piece by piece.
+
 ghost use Rattle.std.specs.Prelude.{map};
 ghost use Rattle.san_report.specs.Lines.{joined};
 ghost use Rattle.san_report.specs.Puts.{Wrote};

@@ -1,3 +1,5 @@
+//! The lines of rewards.
+
 ghost use Rattle.std.specs.Prelude.{◌≡◌, ◌∷◌, [], Some, codes, IfOk};
 ghost use Rattle.san_report.specs.Lines.{joined, reward_line};
 ghost use Rattle.san_reward.specs.declared.worth.Worth.TheVariants.{Mean};

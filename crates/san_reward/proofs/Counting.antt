@@ -1,5 +1,6 @@
 -- Sums as the time goes on, by number.
 use Rattle.std.proofs.Common.{ℕ, zero, suc, ◌+◌, ◌-◌, ◌*◌, ◌^◌, ◌<◌, ◌≤◌, ◌≡◌, ◌∙◌, ap, sym, refl, subst, List, [], ◌∷◌, arith, nat_lt, nat_eq, ◌≢◌, ◌⊎◌, inl, inr, Bool, true, false, cond, slice_index_or, slice_set, length, map}
+use Rattle.san_base.specs.declared.limits.TheConstants.{MAX_HORIZON}
 use Rattle.std.specs.Prelude.{pos, unsigned_abs, All}
 use Rattle.std.proofs.lemmas.Bool.{ltb-true, ltb-false}
 use Rattle.std.proofs.lemmas.Bool.Decides.{eqb_tells, nat_tests}
@@ -9,7 +10,7 @@ use Rattle.san_law.specs.Reward.{no_span, plus, rates_sum, span_of, sum_ticks, s
 use Rattle.san_law.specs.Reward as law
 use Rattle.san_law.specs.Tally.{going_on, sum_of, sums_from, tally_worth}
 use Rattle.san_law.proofs.Tallies.{plus_last}
-use Rattle.san_reward.specs.Present.{IsAtMost, counted_on, gone_on, no_present, overlap, present_at, shown, times}
+use Rattle.san_reward.specs.Present.{IsAtMost, counted_on, accrued, no_present, overlap, present_at, shown, times}
 use Rattle.san_reward.specs.Running.{IsCounted, Running, advanced, net_in}
 use Rattle.san_net.specs.Network.{span_in}
 use Rattle.san_net.specs.declared.part.Span as interval
@@ -140,10 +141,10 @@ span_at [] r d h = absurd (omega (arith, h))
 span_at (s ∷ ss) zero d h = refl
 span_at (s ∷ ss) (suc r) d h = span_at ss r d (omega (arith, h))
 
-pub span_ends : (spans : List interval.Span) (r : ℕ) (d : interval.Span) → r < length spans → All (λ s. s.to ≤ 1000000000001) (map span_in spans) → (span_in (slice_index_or spans r d)).to ≤ 1000000000001
+pub span_ends : (spans : List interval.Span) (r : ℕ) (d : interval.Span) → r < length spans → All (λ s. s.to ≤ MAX_HORIZON + 1) (map span_in spans) → (span_in (slice_index_or spans r d)).to ≤ MAX_HORIZON + 1
 span_ends spans r d h all = let many = length-map spans span_in in rw (span_at spans r d h) (all r no_span (omega (arith, h, many)))
 
-pub span_low : (spans : List interval.Span) (r : ℕ) (s : interval.Span) → s ≡ slice_index_or spans r s → r < length spans → All (λ s. s.to ≤ 1000000000001) (map span_in spans) → (span_in s).to < 2 ^ 64
+pub span_low : (spans : List interval.Span) (r : ℕ) (s : interval.Span) → s ≡ slice_index_or spans r s → r < length spans → All (λ s. s.to ≤ MAX_HORIZON + 1) (map span_in spans) → (span_in s).to < 2 ^ 64
 span_low spans r s e h all = let most = span_ends spans r s h all in let same = ap (λ (q : interval.Span). (span_in q).to) e in omega (arith, most, same)
 
 -- a sum that is read from a list
@@ -160,9 +161,9 @@ pub present_low : (present : List Present) (r : ℕ) (p : Present) → p ≡ sli
 present_low present r p e h k = subst (λ (q : Present). unsigned_abs q.sum ≤ 2 ^ 79) (sym (same_present present r p e h)) k
 
 pub gone_same : (spans : List interval.Span) (present : List Present) (from to r ticks : ℕ) (sums : List Rated) (w v : Rated) (s : interval.Span) (p : Present) → s ≡ slice_index_or spans r s → p ≡ slice_index_or present r p → v ≡ slice_index_or sums r v → r < length spans → r < length present → r < length sums
-    → ticks ≡ overlap (span_in s) from to → w ≡ gone_on v p ticks → w ≡ counted_on (map span_in spans) present from to r (slice_index_or sums r zero_sum)
-gone_same spans present from to r ticks sums w v s p a b d h k l e is = is ∙ (ap (λ x. gone_on x p ticks) (same_sum sums r v d l) ∙ (ap (λ q. gone_on (slice_index_or sums r zero_sum) q ticks) (same_present present r p b k)
-    ∙ ap (gone_on (slice_index_or sums r zero_sum) (present_at present r)) (e ∙ ap (λ x. overlap x from to) (ap span_in a ∙ span_at spans r s h))))
+    → ticks ≡ overlap (span_in s) from to → w ≡ accrued v p ticks → w ≡ counted_on (map span_in spans) present from to r (slice_index_or sums r zero_sum)
+gone_same spans present from to r ticks sums w v s p a b d h k l e is = is ∙ (ap (λ x. accrued x p ticks) (same_sum sums r v d l) ∙ (ap (λ q. accrued (slice_index_or sums r zero_sum) q ticks) (same_present present r p b k)
+    ∙ ap (accrued (slice_index_or sums r zero_sum) (present_at present r)) (e ∙ ap (λ x. overlap x from to) (ap span_in a ∙ span_at spans r s h))))
 
 -- an advance
 pub advanced_is : (t : Running) (present : List Present) (to : ℕ) (sums : List Rated) → IsCounted t present → t.time ≤ to → sums ≡ sums_from (counted_on t.spans present t.time to) 0 t.tally.sums → with_sums t to sums ≡ advanced t to
@@ -184,7 +185,7 @@ advance_counted t u present to sums e c h l is = let same = ap (λ (x : Running)
 
 -- a worth
 pub value_ends : (t u : Running) (present : List Present) (r : ℕ) (sum : Rated) (s : interval.Span) (p : Present) (v : Rated) (spans : List interval.Span) (ticks : ℕ) (w : law.Worth) → u ≡ t → IsCounted t present → r < length u.spans → t.spans ≡ map span_in spans → s ≡ slice_index_or spans r s → p ≡ slice_index_or present r p → v ≡ slice_index_or t.tally.sums r v
-    → ticks ≡ overlap (span_in s) t.time (t.horizon + 1) → sum ≡ gone_on v p ticks → w ≡ sum_worth (span_in s) sum → nat_lt (t.horizon + 1) (span_in s).to ≡ false → w ≡ tally_worth (net_in u) u.tally u.time r
+    → ticks ≡ overlap (span_in s) t.time (t.horizon + 1) → sum ≡ accrued v p ticks → w ≡ sum_worth (span_in s) sum → nat_lt (t.horizon + 1) (span_in s).to ≡ false → w ≡ tally_worth (net_in u) u.tally u.time r
 value_ends t u present r sum s p v spans ticks w e c h f a b d k is worth timely =
     let many = ap (λ (x : Running). length x.spans) e in
     let size = ap length f ∙ length-map spans span_in in
@@ -213,7 +214,7 @@ pub span_is_low : (t u : Running) (present : List Present) (r : ℕ) (s : interv
 span_is_low t u present r s spans e c h f a =
     let many = ap (λ (x : Running). length x.spans) e in
     let size = ap length f ∙ length-map spans span_in in
-    span_low spans r s a (omega (arith, h, many, size)) (subst (λ ss. All (λ x. x.to ≤ 1000000000001) ss) f c.spanned)
+    span_low spans r s a (omega (arith, h, many, size)) (subst (λ ss. All (λ x. x.to ≤ MAX_HORIZON + 1) ss) f c.spanned)
 
 pub present_is_low : (t u : Running) (present : List Present) (r : ℕ) (p : Present) → u ≡ t → IsCounted t present → r < length u.spans → p ≡ slice_index_or present r p → unsigned_abs p.sum ≤ 2 ^ 79
 present_is_low t u present r p e c h b = let many = ap (λ (x : Running). length x.spans) e in present_low present r p b (omega (arith, h, many, c.sized)) (present_small t present r c)

@@ -1,5 +1,6 @@
 -- Two lists are equal, one by one.
-use Rattle.std.proofs.Common.{ℕ, zero, suc, ◌^◌, ◌<◌, ◌≤◌, ◌≡◌, ◌∙◌, ap, sym, subst, List, [], ◌∷◌, arith, slice_index_or, length, map, Bool, false}
+use Rattle.std.proofs.Common.{ℕ, zero, suc, ◌+◌, ◌^◌, ◌<◌, ◌≤◌, ◌≡◌, ◌∙◌, ap, sym, subst, List, [], ◌∷◌, arith, slice_index_or, length, map, Bool, false}
+use Rattle.san_base.specs.declared.limits.TheConstants.{MAX_HORIZON}
 use Rattle.std.specs.Prelude.{All, IsTrue}
 use Rattle.san_net.specs.Network.{span_in}
 use Rattle.san_net.specs.declared.part.Span as interval
@@ -24,5 +25,5 @@ module _ {X Y : Type 0} (f : X → Y) where
   pub differ : (a b : List X) (n : ℕ) (d e x y : X) (r : Bool) → n < length a → n < length b → f x ≡ f (slice_index_or a n d) → f y ≡ f (slice_index_or b n e) → (f x ≡ f y → IsTrue r) → r ≡ false → (IsTrue false → map f a ≡ map f b) × (map f a ≡ map f b → IsTrue false)
   differ a b n d e x y r h l p q same not = ((λ t. cc), (λ is. subst IsTrue not (same (p ∙ (one_same a b n d e h l is ∙ sym q)))))
 
-pub low_at : (spans : List interval.Span) (r : ℕ) (d : interval.Span) → r < length spans → All (λ s. s.to ≤ 1000000000001) (map span_in spans) → (span_in (slice_index_or spans r d)).to < 2 ^ 64
+pub low_at : (spans : List interval.Span) (r : ℕ) (d : interval.Span) → r < length spans → All (λ s. s.to ≤ MAX_HORIZON + 1) (map span_in spans) → (span_in (slice_index_or spans r d)).to < 2 ^ 64
 low_at spans r d h all = let most = span_ends spans r d h all in omega (arith, most)

@@ -1,5 +1,6 @@
 -- A tally as it is opened.
 use Rattle.std.proofs.Common.{ℕ, zero, suc, ◌+◌, ◌*◌, ◌^◌, ◌<◌, ◌≤◌, ◌≡◌, ◌∙◌, ap, sym, refl, subst, List, [], ◌∷◌, ◌++◌, arith, Option, Some, None, nat_eq, Bool, true, false, cond, take, replicate, slice_index_or, length, map}
+use Rattle.san_base.specs.declared.limits.TheConstants.{MAX_HORIZON}
 use Rattle.std.specs.Prelude.{pos, ◌+ℤ◌, All, slice_get, if◌then◌else◌}
 use Rattle.std.specs.List.{count_by}
 use Rattle.std.proofs.lemmas.Bool.Decides.{nat_tests}
@@ -77,14 +78,14 @@ join P x xs h all = each
     each (suc k) d l = all k d (omega (arith, l))
 
 -- the intervals end by the greatest horizon's tick
-span_low : (s : interval.Span) → IsSpan s → (span_in s).to ≤ 1000000000001
+span_low : (s : interval.Span) → IsSpan s → (span_in s).to ≤ MAX_HORIZON + 1
 span_low (span.Over from to) h = h.1
 span_low (span.Mean from to) h = h.1
 span_low (span.At tick) h = omega (arith, h)
 
-spans_low : (rs : List Reward) → All (λ r. IsSpan r.span) rs → All (λ s. s.to ≤ 1000000000001) (map (λ r. span_in r.span) rs)
+spans_low : (rs : List Reward) → All (λ r. IsSpan r.span) rs → All (λ s. s.to ≤ MAX_HORIZON + 1) (map (λ r. span_in r.span) rs)
 spans_low [] h = λ k d l. absurd (omega (arith, l))
-spans_low (r ∷ rs) h = join (λ s. s.to ≤ 1000000000001) (span_in r.span) (map (λ x. span_in x.span) rs) (span_low r.span (h 0 r (omega arith))) (spans_low rs (λ j x m. h (suc j) x (omega (arith, m))))
+spans_low (r ∷ rs) h = join (λ s. s.to ≤ MAX_HORIZON + 1) (span_in r.span) (map (λ x. span_in x.span) rs) (span_low r.span (h 0 r (omega arith))) (spans_low rs (λ j x m. h (suc j) x (omega (arith, m))))
 
 -- a reward's terms are few
 few_in : (r : ℕ) (qs ms : List ℕ) → counts.terms_in r qs ≤ count_by (nat_eq r) (qs ++ ms)
@@ -117,7 +118,7 @@ same_shape : (parts : List Part) → map length (map no_rates parts) ≡ map len
 same_shape [] = refl
 same_shape (p ∷ parts) = ap (λ n. n ∷ map length (map no_rates parts)) (length-replicate (length p.atomic.rates) zero_sum ∙ sym (length-map p.atomic.rates (λ t. t.reward))) ∙ ap (λ ns. length (terms_in p) ∷ ns) (same_shape parts)
 
-pub opened_counted : (n : Network) (horizon : ℕ) → IsNetwork n → horizon ≤ 1000000000000 → IsCounted (opened n horizon) (replicate (length n.rewards) no_present)
+pub opened_counted : (n : Network) (horizon : ℕ) → IsNetwork n → horizon ≤ MAX_HORIZON → IsCounted (opened n horizon) (replicate (length n.rewards) no_present)
 opened_counted n horizon is h = record {
   horizon = h;
   time = omega arith;
@@ -146,5 +147,5 @@ module _ (n : Network) (horizon : ℕ) (rs : List Reward) (spans : List interval
       ∙ (ap (λ (xs : List Reward). running_of horizon 0 0 (map (λ r. r.span) xs) (map terms_in n.parts) (map no_rates n.parts) (replicate (length xs) zero_sum)) e
       ∙ ap (λ ss. record { horizon = horizon; time = 0; spans = ss; terms = map terms_in n.parts; tally = record { rates = map no_rates n.parts; sums = replicate (length n.rewards) zero_sum; impulses = 0 } }) (map-map span_in (λ r. r.span) n.rewards)))))
 
-  pub opened_keeps : (present : List Present) → present ≡ replicate (length rs) no_present → IsNetwork n → horizon ≤ 1000000000000 → IsCounted (running_of horizon 0 0 spans terms rates sums) present
+  pub opened_keeps : (present : List Present) → present ≡ replicate (length rs) no_present → IsNetwork n → horizon ≤ MAX_HORIZON → IsCounted (running_of horizon 0 0 spans terms rates sums) present
   opened_keeps present f is h = subst (λ t. IsCounted t present) (sym opened_is) (subst (λ ps. IsCounted (opened n horizon) ps) (sym (f ∙ ap (λ (xs : List Reward). replicate (length xs) no_present) e)) (opened_counted n horizon is h))

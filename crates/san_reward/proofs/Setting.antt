@@ -1,5 +1,6 @@
 -- One rate set, and one impulse told.
 use Rattle.std.proofs.Common.{ℕ, zero, suc, ◌+◌, ◌-◌, ◌*◌, ◌^◌, ◌<◌, ◌≤◌, ◌≡◌, ◌≢◌, ◌⊎◌, inl, inr, ◌∙◌, ap, sym, refl, subst, List, [], ◌∷◌, arith, None, nat_lt, nat_eq, Bool, true, false, slice_index_or, slice_set, length, map}
+use Rattle.san_base.specs.declared.limits.TheConstants.{MAX_IMPULSES, MAX_LEAVES}
 use Rattle.std.specs.Prelude.{ℤ, pos, ◌+ℤ◌, ◌-ℤ◌, All, if◌then◌else◌}
 use Rattle.std.proofs.lemmas.Int.{ints}
 use Rattle.std.proofs.lemmas.Bool.{eq-eqb, ltb-true, ltb-false, ne_eqb}
@@ -168,7 +169,7 @@ rate_counted t present j k q w v c h m small e is = record {
     by_reward r l (inr s) = get_or-set_other present q r (replaced (present_at present q) v w) no_present s.1 ∙ (c.each r l ∙ sym (other_reward k j q w t.terms t.tally.rates e h many m long r s.1))
 
 -- an impulse told
-pub impulse_counted : (t : Running) (present : List Present) (r : ℕ) (w : Rated) → IsCounted t present → t.tally.impulses < 2 ^ 40 → IsAtMost (2 ^ 63) w → IsCounted (with_impulse t r w) present
+pub impulse_counted : (t : Running) (present : List Present) (r : ℕ) (w : Rated) → IsCounted t present → t.tally.impulses < MAX_IMPULSES → IsAtMost (2 ^ 63) w → IsCounted (with_impulse t r w) present
 impulse_counted t present r w c few h = record {
   horizon = c.horizon;
   time = c.time;
@@ -228,7 +229,7 @@ module _ (t u : Running) (present : List Present) (j k : ℕ) (e : u ≡ t) (c :
     reward_of_tally : q < length t.spans
     reward_of_tally = let l = reward_known t present j k c leaf_in term_in in omega (arith, l, is)
 
-    pub faults_few : (present_at present q).faults ≤ 65536
+    pub faults_few : (present_at present q).faults ≤ MAX_LEAVES * 16
     faults_few = let few = c.few q in let most = all_few q t.terms t.tally.rates in let same = ap (λ (p : Present). p.faults) (c.each q reward_of_tally) in omega (arith, few, most, same)
 
     module _ (v : Rated) (was : v ≡ slice_index_or (slice_index_or t.tally.rates j []) k None) where
@@ -253,5 +254,5 @@ module _ (t u : Running) (present : List Present) (r : ℕ) (w added : Rated) (s
   pub impulse_ends : with_told t sums ≡ with_impulse u r w
   impulse_ends = ap (with_told t) told_sums ∙ ap (λ x. with_impulse x r w) (sym e)
 
-  pub impulse_keeps : u.tally.impulses < 2 ^ 40 → IsAtMost (2 ^ 63) w → IsCounted (with_told t sums) present
+  pub impulse_keeps : u.tally.impulses < MAX_IMPULSES → IsAtMost (2 ^ 63) w → IsCounted (with_told t sums) present
   impulse_keeps few small = let same = ap (λ (x : Running). x.tally.impulses) e in subst (λ ss. IsCounted (with_told t ss) present) (sym told_sums) (impulse_counted t present r w c (omega (arith, few, same)) small)

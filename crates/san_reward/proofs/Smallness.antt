@@ -4,7 +4,7 @@ use Rattle.std.specs.Prelude.{ℤ, pos, ◌+ℤ◌, ◌*ℤ◌, unsigned_abs, Al
 use Rattle.std.proofs.lemmas.Int.{ints, unsigned_abs-mul}
 use Rattle.san_law.specs.Net.{Rated}
 use Rattle.san_law.specs.Reward.{plus}
-use Rattle.san_reward.specs.Present.{IsAtMost, amount, amount_in, amounts, fault, faults, faults_in, gone_on, shown, terms_in, terms_of, times}
+use Rattle.san_reward.specs.Present.{IsAtMost, amount, amount_in, amounts, fault, faults, faults_in, accrued, shown, terms_in, terms_of, times}
 use Rattle.san_reward.specs.declared.present.Present.{Present}
 
 pub abs_plus : (a b : ℤ) → unsigned_abs (a +ℤ b) ≤ unsigned_abs a + unsigned_abs b
@@ -80,7 +80,7 @@ shown_times zero f p h = omega arith
 shown_times (suc n) zero p h = times_at_most 0 (suc n) p h
 shown_times (suc n) (suc f) p h = tt
 
-pub gone_at_most : (m ticks : ℕ) (sum : Rated) (p : Present) → IsAtMost m sum → unsigned_abs p.sum ≤ 2 ^ 79 → IsAtMost (m + ticks * 2 ^ 79) (gone_on sum p ticks)
+pub gone_at_most : (m ticks : ℕ) (sum : Rated) (p : Present) → IsAtMost m sum → unsigned_abs p.sum ≤ 2 ^ 79 → IsAtMost (m + ticks * 2 ^ 79) (accrued sum p ticks)
 gone_at_most m ticks sum p h l = sum_at_most m (ticks * 2 ^ 79) sum (times ticks (shown p.sum p.faults)) h (shown_times ticks p.faults p.sum l)
 
 pub one_more_at_most : (m : ℕ) (sum w : Rated) → IsAtMost m sum → IsAtMost (2 ^ 63) w → IsAtMost (m + 2 ^ 63) (plus sum w)

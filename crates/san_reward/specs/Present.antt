@@ -76,12 +76,12 @@ abbrev pub overlap : Span → ℕ → ℕ → ℕ
 overlap s from to = min to s.to - max from s.from
 
 -- a sum, and the present rates for so many ticks
-abbrev pub gone_on : Rated → Present → ℕ → Rated
-gone_on sum p ticks = plus sum (times ticks (shown p.sum p.faults))
+abbrev pub accrued : Rated → Present → ℕ → Rated
+accrued sum p ticks = plus sum (times ticks (shown p.sum p.faults))
 
 -- a reward's sum as its present rates go on from one time to another
 abbrev pub counted_on : List Span → List Present → ℕ → ℕ → ℕ → Rated → Rated
-counted_on spans present from to r sum = gone_on sum (present_at present r) (overlap (slice_index_or spans r no_span) from to)
+counted_on spans present from to r sum = accrued sum (present_at present r) (overlap (slice_index_or spans r no_span) from to)
 
 -- one rate in another's place
 abbrev pub replaced : Present → Rated → Rated → Present

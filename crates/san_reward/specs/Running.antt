@@ -1,5 +1,6 @@
 -- What a tally knows and has counted.
 use Rattle.std.specs.Prelude.{ℕ, ◌+◌, ◌*◌, ◌^◌, ◌≤◌, ◌<◌, ◌≡◌, All, List, [], ◌∷◌, map, replicate, length, slice_index_or, slice_set}
+use Rattle.san_base.specs.declared.limits.TheConstants.{MAX_HORIZON, MAX_IMPULSES, MAX_LEAVES}
 use Rattle.san_law.specs.Net.{Impulse, Net, Rated, Span, Nothing, Fresh}
 use Rattle.san_law.specs.Reward.{plus, span_of, zero_sum}
 use Rattle.san_law.specs.Tally.{Tally, sum_of, tally_after}
@@ -108,15 +109,15 @@ with_impulses t (x ∷ xs) = with_impulses (with_impulse t x.reward x.rated) xs
 
 -- what is kept of a tally: the sums of each reward's present rates are at hand, and all sums are small
 pub record IsCounted (t : Running) (present : List Present) : Type 0 where
-  pub horizon : t.horizon ≤ 1000000000000
+  pub horizon : t.horizon ≤ MAX_HORIZON
   pub time : t.time ≤ t.horizon
-  pub impulses : t.tally.impulses ≤ 2 ^ 40
+  pub impulses : t.tally.impulses ≤ MAX_IMPULSES
   pub sums : length t.tally.sums ≡ length t.spans
   pub sized : length present ≡ length t.spans
   pub each : (r : ℕ) → r < length t.spans → present_at present r ≡ present_of r t.terms t.tally.rates
   pub small : (r : ℕ) → IsAtMost (t.time * 2 ^ 79 + t.tally.impulses * 2 ^ 63) (sum_of t.tally r)
-  pub spanned : All (λ s. s.to ≤ 1000000000001) t.spans
-  pub few : (r : ℕ) → terms_of r t.terms ≤ 65536
+  pub spanned : All (λ s. s.to ≤ MAX_HORIZON + 1) t.spans
+  pub few : (r : ℕ) → terms_of r t.terms ≤ MAX_LEAVES * 16
   pub known : All (All (λ q. q < length t.spans)) t.terms
   pub shaped : map length t.tally.rates ≡ map length t.terms
   pub bounded : All (All (IsAtMost (2 ^ 63))) t.tally.rates

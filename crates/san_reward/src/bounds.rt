@@ -1,3 +1,5 @@
+//! A term's value as a number, or none.
+
 ghost use Rattle.std.specs.Prelude.{◌≡◌, ◌^◌};
 ghost use Rattle.san_base.specs.Rated.{term_value};
 ghost use Rattle.san_reward.specs.Present.{IsAtMost};

@@ -1,3 +1,5 @@
+//! What a tally counts is what the law says of its network.
+
 ghost use Rattle.std.specs.Prelude.{◌≡◌, ◌∷◌, [], ℕ};
 ghost use Rattle.san_law.specs.Net.{Net};
 ghost use Rattle.san_law.specs.Network.{Limits};

@@ -1,4 +1,7 @@
-ghost use Rattle.std.specs.Prelude.{◌≡◌, ◌+ℤ◌, ◌-ℤ◌, ◌<◌, ◌≤◌, ◌^◌, [], ℕ, None, length, map, slice_index_or, slice_set, unsigned_abs};
+//! The rates of the leaves' terms, and the sums that they move.
+
+ghost use Rattle.san_base.specs.declared.limits.TheConstants.{MAX_LEAVES};
+ghost use Rattle.std.specs.Prelude.{◌≡◌, ◌*◌, ◌+ℤ◌, ◌-ℤ◌, ◌<◌, ◌≤◌, ◌^◌, [], ℕ, None, length, map, slice_index_or, slice_set, unsigned_abs};
 ghost use Rattle.san_law.specs.Reward.{plus, zero_sum};
 ghost use Rattle.san_reward.specs.Present.{IsAtMost, amount, fault, present_at, replaced};
 ghost use Rattle.san_reward.specs.Running.{rates_with};
@@ -48,7 +51,7 @@ fn moved(sum: i128, old: Option<i64>, new: Option<i64>) -> i128
 /// One rate in another's place.
 fn replaced(present: Present, old: Option<i64>, new: Option<i64>) -> Present
     requires sum { unsigned_abs present.sum ≤ 2 ^ 79 }
-    requires few { present.faults ≤ 65536 }
+    requires few { present.faults ≤ MAX_LEAVES * 16 }
     requires faults { fault old ≤ present.faults }
     ensures { result ≡ replaced present old new }
 {
@@ -62,7 +65,7 @@ fn replaced(present: Present, old: Option<i64>, new: Option<i64>) -> Present
 pub(crate) fn replace(present: &mut Vec<Present>, reward: u32, old: Option<i64>, new: Option<i64>)
     requires reward { reward < length present.old.items }
     requires sum { unsigned_abs (present_at present.old.items reward).sum ≤ 2 ^ 79 }
-    requires few { (present_at present.old.items reward).faults ≤ 65536 }
+    requires few { (present_at present.old.items reward).faults ≤ MAX_LEAVES * 16 }
     requires faults { fault old ≤ (present_at present.old.items reward).faults }
     ensures { present.new.items
         ≡ slice_set present.old.items reward (replaced (present_at present.old.items reward)

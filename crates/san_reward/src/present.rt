@@ -1,8 +1,11 @@
+//! The present rates of a reward, and how its sum accrues.
+
+ghost use Rattle.san_base.specs.declared.limits.TheConstants.{MAX_HORIZON};
 ghost use Rattle.std.specs.Prelude.{◌≡◌, ◌<◌, ◌≤◌, ◌^◌, ℕ, length, map, unsigned_abs};
 ghost use Rattle.san_law.specs.Reward.{is_within, plus, zero_sum};
 ghost use Rattle.san_law.specs.Tally.{sums_from};
 ghost use Rattle.san_net.specs.Network.{span_in};
-ghost use Rattle.san_reward.specs.Present.{IsAtMost, amount, counted_at, counted_on, fault, gone_on, overlap, present_at};
+ghost use Rattle.san_reward.specs.Present.{IsAtMost, amount, counted_at, counted_on, fault, accrued, overlap, present_at};
 ghost use Rattle.std.specs.Prelude.{◌+◌, All, slice_index_or};
 
 use san_net::Span;
@@ -46,11 +49,11 @@ pub(crate) fn overlap(span: Span, from: u64, to: u64) -> u64
 }
 
 /// A sum as the present rates go on for so many ticks.
-pub(crate) fn gone_on(sum: Option<i128>, present: Present, ticks: u64) -> Option<i128>
+pub(crate) fn accrue(sum: Option<i128>, present: Present, ticks: u64) -> Option<i128>
     requires sum { IsAtMost (2 ^ 120) sum }
     requires present { unsigned_abs present.sum ≤ 2 ^ 79 }
     requires ticks { ticks ≤ 2 ^ 40 }
-    ensures { result ≡ gone_on sum present ticks }
+    ensures { result ≡ accrued sum present ticks }
 {
     if ticks == 0 {
         return sum;
@@ -130,7 +133,7 @@ pub(crate) fn count_on(
     requires present { length present.now.items ≡ length sums.old.items }
     requires spans { length spans.now.items ≡ length sums.old.items }
     requires ticks { to ≤ from + 2 ^ 40 }
-    requires spanned { All (λ s. s.to ≤ 1000000000001) (map span_in spans.now.items) }
+    requires spanned { All (λ s. s.to ≤ MAX_HORIZON + 1) (map span_in spans.now.items) }
     requires small { (r : ℕ) → IsAtMost (2 ^ 120) (slice_index_or sums.old.items r zero_sum) }
     requires rates { (r : ℕ) → unsigned_abs (present_at present.now.items r).sum ≤ 2 ^ 79 }
     ensures { sums.new.items
@@ -139,6 +142,6 @@ pub(crate) fn count_on(
 {
     'rewards: for at in 0..sums.len() {
         let ticks = overlap(spans[at], from, to);
-        sums[at] = gone_on(sums[at], present[at], ticks);
+        sums[at] = accrue(sums[at], present[at], ticks);
     }
 }

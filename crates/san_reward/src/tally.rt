@@ -1,17 +1,20 @@
+//! The tally of a run's rewards.
+
+ghost use Rattle.san_base.specs.declared.limits.TheConstants.{MAX_HORIZON, MAX_IMPULSES};
 ghost use Rattle.std.specs.Prelude.{◌≡◌, ◌↔◌, ◌<◌, ◌≤◌, ◌^◌, [], ℕ, IfOk, IsTrue, length, map, slice_index_or};
 ghost use Rattle.san_law.specs.Tally.{tally_worth};
 ghost use Rattle.san_reward.specs.Running.{advanced, net_in, opened, with_impulse, with_rate};
 ghost use Rattle.san_base.specs.Rated.{term_value};
-ghost use Rattle.san_reward.specs.Worth.{worth_told};
+ghost use Rattle.san_reward.specs.Worth.{worth_of};
 
 use crate::bounds::term_value;
-use crate::copying::{copied, copied_lists};
-use crate::equal::{same_rate_lists, same_spans, same_sums, same_terms};
+use crate::copy::{copy_list, copy_lists};
 use crate::leaves::{add, put_rate, replace, reward_of};
-use crate::present::{Present, count_on, counted, end, gone_on, overlap};
+use crate::present::{Present, accrue, count_on, counted, end, overlap};
+use crate::same::{same_lists, same_spans};
 use crate::worth::{Worth, worth_by};
 use crate::zeros::{no_presents, no_sums, rates_table, spans_of, terms_table};
-use san_base::{LeafId, NoMemory, Rated, Tick};
+use san_base::{LeafId, NoMemory, Rated, Tick, all_same};
 use san_net::{Flat, Span};
 use std::alloc::Global;
 use std::marker::Model;
@@ -47,7 +50,7 @@ impl Model for Tally {
 impl Tally {
     /// A tally at time 0, where each rate is 0 until it is set.
     pub fn open(alloc: Global, flat: &Flat, horizon: Tick) -> Result<Tally, NoMemory>
-        requires { horizon.0 ≤ 1000000000000 }
+        requires { horizon.0 ≤ MAX_HORIZON }
         ensures { IfOk result (λ t. t ≡ opened flat.now horizon.0) }
     {
         flat.is_network();
@@ -73,11 +76,11 @@ impl Tally {
     pub fn copy(&self, alloc: Global) -> Result<Tally, NoMemory>
         ensures { IfOk result (λ t. t ≡ self.now) }
     {
-        let spans = copied(alloc, &self.spans)?;
-        let terms = copied_lists(alloc, &self.terms)?;
-        let rates = copied_lists(alloc, &self.rates)?;
-        let present = copied(alloc, &self.present)?;
-        let sums = copied(alloc, &self.sums)?;
+        let spans = copy_list(alloc, &self.spans)?;
+        let terms = copy_lists(alloc, &self.terms)?;
+        let rates = copy_lists(alloc, &self.rates)?;
+        let present = copy_list(alloc, &self.present)?;
+        let sums = copy_list(alloc, &self.sums)?;
         Ok(Tally {
             horizon: self.horizon,
             time: self.time,
@@ -98,9 +101,9 @@ impl Tally {
             && self.time == other.time
             && self.impulses == other.impulses
             && same_spans(&self.spans, &other.spans)
-            && same_terms(&self.terms, &other.terms)
-            && same_rate_lists(&self.rates, &other.rates)
-            && same_sums(&self.sums, &other.sums)
+            && same_lists(&self.terms, &other.terms)
+            && same_lists(&self.rates, &other.rates)
+            && all_same(&self.sums, &other.sums)
     }
 
     /// Counts the present rates for the ticks from the present time to before a time, which is the
@@ -154,7 +157,7 @@ impl Tally {
     /// Counts an impulse at the present time.
     pub fn impulse(&mut self, reward: u32, rated: Rated)
         requires reward { reward < length self.old.spans }
-        requires few { self.old.tally.impulses < 2 ^ 40 }
+        requires few { self.old.tally.impulses < MAX_IMPULSES }
         ensures { self.new ≡ with_impulse self.old reward (term_value rated) }
     {
         self.impulses += 1;
@@ -165,8 +168,8 @@ impl Tally {
     /// A reward's worth with the present rates going on to the end of the horizon's tick.
     pub fn value(&self, reward: u32) -> Worth
         requires { reward < length self.now.spans }
-        ensures { worth_told result
-            ≡ tally_worth (net_in self.now) self.now.tally self.now.time reward }
+        ensures { result
+            ≡ worth_of (tally_worth (net_in self.now) self.now.tally self.now.time reward) }
     {
         let at = reward as usize;
         let span = self.spans[at];
@@ -174,6 +177,6 @@ impl Tally {
             return Worth::Beyond;
         }
         let ticks = overlap(span, self.time.0, self.horizon.0 + 1);
-        worth_by(span, gone_on(self.sums[at], self.present[at], ticks))
+        worth_by(span, accrue(self.sums[at], self.present[at], ticks))
     }
 }

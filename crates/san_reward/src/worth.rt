@@ -1,7 +1,9 @@
+//! What a reward is worth.
+
 ghost use Rattle.std.specs.Prelude.{◌≡◌};
 ghost use Rattle.san_law.specs.Reward.{sum_worth};
 ghost use Rattle.san_net.specs.Network.{span_in};
-ghost use Rattle.san_reward.specs.Worth.{worth_told};
+ghost use Rattle.san_reward.specs.Worth.{worth_of};
 
 use san_net::Span;
 
@@ -19,7 +21,7 @@ pub enum Worth {
 
 /// A reward's sum as its interval asks for it.
 pub(crate) fn worth_by(span: Span, sum: Option<i128>) -> Worth
-    ensures { worth_told result ≡ sum_worth (span_in span) sum }
+    ensures { result ≡ worth_of (sum_worth (span_in span) sum) }
 {
     match sum {
         None => Worth::Fault,

@@ -1,3 +1,5 @@
+//! The tables of a tally that has counted nothing.
+
 ghost use Rattle.std.specs.Prelude.{◌≡◌, IfOk, map, replicate};
 ghost use Rattle.san_law.specs.Reward.{zero_sum};
 ghost use Rattle.san_reward.specs.Present.{no_present};

@@ -1,7 +1,7 @@
 //! Texts and their canonical texts, worked out by hand.
 
 use san_show::show;
-use san_text::{Parsed, Same, parse};
+use san_text::parse;
 use std::alloc::Global;
 
 /// Models of the rows, and a model of each version that uses every construct.
@@ -40,27 +40,24 @@ const SHOWN: [(&[u8], &[u8]); 8] = [
     ),
 ];
 
-/// A text that was read, and its canonical text.
-fn shown(alloc: Global, text: &[u8]) -> Option<(Parsed, Vec<u8>)> {
+/// The canonical text of a text that can be read.
+fn shown(alloc: Global, text: &[u8]) -> Option<Vec<u8>> {
     if text.len() > 4000 {
         return None;
     }
     let found = parse(alloc, text).ok()?;
-    let written = show(alloc, &found.syntax).ok()?;
-    Some((found, written))
+    show(alloc, &found.syntax).ok()
 }
 
 /// Whether a text has this canonical text, which is that of itself.
 fn is_shown(alloc: Global, text: &[u8], canonical: &[u8]) -> bool {
-    let Some((first, written)) = shown(alloc, text) else {
+    let Some(written) = shown(alloc, text) else {
         return false;
     };
-    let Some((again, rewritten)) = shown(alloc, canonical) else {
+    let Some(rewritten) = shown(alloc, canonical) else {
         return false;
     };
-    written.as_slice() == canonical
-        && rewritten.as_slice() == canonical
-        && first.syntax.same(&again.syntax)
+    written.as_slice() == canonical && rewritten.as_slice() == canonical
 }
 
 /// The first row that is shown in another way.
@@ -92,23 +89,23 @@ const DIFFERENT: [&[u8]; 9] = [
     b"san 2; atomic x { place p; instant i { do { p = 1 + p; p = 2; } } } system y;",
 ];
 
-/// Whether a text is told to be the same as just one of these, by its number.
+/// Whether a text has the canonical text of just one of these, by its number.
 fn is_same_as(alloc: Global, text: &[u8], texts: &[&[u8]], number: usize) -> bool {
-    let Some((found, _)) = shown(alloc, text) else {
+    let Some(written) = shown(alloc, text) else {
         return false;
     };
     for (at, other) in texts.iter().enumerate() {
-        let Some((others, _)) = shown(alloc, *other) else {
+        let Some(others) = shown(alloc, *other) else {
             return false;
         };
-        if found.syntax.same(&others.syntax) != (at == number) {
+        if (written.as_slice() == others.as_slice()) != (at == number) {
             return false;
         }
     }
     true
 }
 
-/// The first text that is told to be the same as another.
+/// The first text that has the canonical text of another.
 fn wrong_sameness(alloc: Global, texts: &[&[u8]]) -> Option<usize> {
     for (row, text) in texts.iter().enumerate() {
         if !is_same_as(alloc, *text, texts, row) {

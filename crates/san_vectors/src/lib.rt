@@ -35,4 +35,6 @@ mod rewards;
 #[cfg(test)]
 mod sequential;
 #[cfg(test)]
+mod trees;
+#[cfg(test)]
 mod winners;

@@ -1,5 +1,5 @@
 -- What is heard of words.
-use Rattle.std.specs.Prelude.{◌≡◌, ◌<◌, ◌≤◌, ◌^◌, ℕ, List, codes, min, max, Option, None, Some, Result, Ok, Err}
+use Rattle.std.specs.Prelude.{◌≡◌, ◌<◌, ◌≤◌, ◌^◌, ℕ, List, min, max, Option, None, Some, Result, Ok, Err}
 use Rattle.std.specs.Str.Parse.{digits_value, without_leading_plus, IsNumeral}
 use Rattle.clap.specs.Matches.{found_of, one_text}
 use Rattle.clap.specs.declared.parser.matches.ArgMatches.{ArgMatches}
@@ -8,8 +8,12 @@ use Rattle.clap.specs.Walk.{Text, one_of}
 use Rattle.san_base.specs.Limits.{IsInRange}
 use Rattle.san_base.specs.declared.limits.Limits.{Limits}
 use Rattle.san_words.specs.Commands.{IsTaken}
-use Rattle.san_words.specs.declared.finding.Unheard.{Unheard}
-use Rattle.san_words.specs.declared.finding.Unheard.TheVariants as unheard
+use Rattle.san_words.specs.Options.{Row, default_in, least_of, most_of, row_of}
+use Rattle.san_words.specs.declared.matches.Unheard.{Unheard}
+use Rattle.san_words.specs.declared.matches.Unheard.TheVariants as unheard
+use Rattle.san_words.specs.declared.options.TheConstants.{MAX_WORKERS}
+use Rattle.san_words.specs.declared.options.NumberOption.{NumberOption}
+use Rattle.san_words.specs.declared.options.NumberOption.TheVariants.{Burst, Events, Horizon, Rollbacks, Seed, Window, Workers}
 use Rattle.san_words.specs.declared.orders.Orders.{Orders}
 use Rattle.san_words.specs.declared.orders.Heard.{Heard}
 use Rattle.san_words.specs.declared.orders.Heard.TheVariants.{Run, Refused, NoMemory}
@@ -33,25 +37,32 @@ pub record SaysWithin (least most other : ℕ) (text : Option Text) (n : ℕ) : 
 abbrev pub Texts : Type 0
 Texts = Text → Option Text
 
+-- a number that an option sets, by its row
+abbrev pub SetsBy : Texts → Row → ℕ → Type 0
+SetsBy texts row n = SaysWithin (least_of row.range) (most_of row.range) (default_in row) (texts row.name) n
+
+abbrev pub SetsNumber : Texts → NumberOption → ℕ → Type 0
+SetsNumber texts option n = SetsBy texts (row_of option) n
+
 -- the seed and the bounds of a run
 pub record BoundsSay (texts : Texts) (seed : ℕ) (limits : Limits) : Type 0 where
-  pub seed_said : SaysWithin 0 18446744073709551615 0 (texts (codes "seed")) seed
-  pub horizon_said : SaysWithin 0 1000000000000 0 (texts (codes "horizon")) limits.horizon.0
-  pub burst_said : SaysWithin 1 10000 1000 (texts (codes "burst")) limits.burst
-  pub events_said : SaysWithin 1 10000000 1000000 (texts (codes "events")) limits.events
+  pub seed_said : SetsNumber texts Seed seed
+  pub horizon_said : SetsNumber texts Horizon limits.horizon.0
+  pub burst_said : SetsNumber texts Burst limits.burst
+  pub events_said : SetsNumber texts Events limits.events
 
 -- and how it is run ahead
 pub record OrdersSay (texts : Texts) (o : Orders) : Type 0 where
   pub bounds : BoundsSay texts o.seed o.limits
-  pub window_said : SaysWithin 1 64 16 (texts (codes "window")) o.limits.window
-  pub rollbacks_said : SaysWithin 0 1000000 10000 (texts (codes "rollbacks")) o.limits.rollbacks
-  pub workers_said : SaysWithin 0 64 4 (texts (codes "workers")) o.workers
+  pub window_said : SetsNumber texts Window o.limits.window
+  pub rollbacks_said : SetsNumber texts Rollbacks o.limits.rollbacks
+  pub workers_said : SetsNumber texts Workers o.workers
 
 -- a run in one thread is never ahead
 pub record PlainSay (texts : Texts) (o : Orders) : Type 0 where
   pub bounds : BoundsSay texts o.seed o.limits
-  pub window : o.limits.window ≡ 16
-  pub rollbacks : o.limits.rollbacks ≡ 10000
+  pub window : o.limits.window ≡ default_in (row_of Window)
+  pub rollbacks : o.limits.rollbacks ≡ default_in (row_of Rollbacks)
   pub workers : o.workers ≡ 0
 
 -- the texts that a command finds in words
@@ -72,6 +83,6 @@ Hears Say app words NoMemory = Unit {0}
 
 -- what is heard can be run
 abbrev pub CanRun : Heard → Type 0
-CanRun (Run o) = IsInRange o.limits × (o.workers ≤ 64)
+CanRun (Run o) = IsInRange o.limits × (o.workers ≤ MAX_WORKERS)
 CanRun Refused = Unit {0}
 CanRun NoMemory = Unit {0}

@@ -1,2 +1,4 @@
 pub mod Commands
 pub mod Hears
+pub mod Options
+pub mod inner

@@ -1,11 +1,11 @@
+//! The commands of the programs, as clap is told of them.
+
 ghost use Rattle.std.specs.Prelude.{◌≡◌, IfOk};
 ghost use Rattle.clap.specs.Words.{app_of};
-ghost use Rattle.san_words.specs.Commands.{bare, plain_app, run_app, with_bounds};
+ghost use Rattle.san_words.specs.Commands.{bare, plain_app, run_app, with_bounds, with_limits};
 
-use crate::options::{
-    burst_option, events_option, horizon_option, rollbacks_option, seed_option, window_option,
-    workers_option,
-};
+use crate::argument::argument;
+use crate::options::NumberOption::{Burst, Events, Horizon, Rollbacks, Seed, Window, Workers};
 use clap::Command;
 use std::alloc::{AllocError, Global};
 
@@ -17,15 +17,21 @@ fn bare<'a>(alloc: Global, name: &'a str) -> Command<'a>
         .disable_help_flag(true)
 }
 
+/// A command with the options of how far a run may go.
+fn with_limits<'a>(alloc: Global, command: Command<'a>) -> Result<Command<'a>, AllocError>
+    ensures { IfOk result (λ c. app_of c ≡ with_limits (app_of command.entry)) }
+{
+    command
+        .arg(argument(alloc, Horizon))?
+        .arg(argument(alloc, Burst))?
+        .arg(argument(alloc, Events))
+}
+
 /// A command with the options of every run.
 fn with_bounds<'a>(alloc: Global, command: Command<'a>) -> Result<Command<'a>, AllocError>
     ensures { IfOk result (λ c. app_of c ≡ with_bounds (app_of command.entry)) }
 {
-    command
-        .arg(seed_option(alloc))?
-        .arg(horizon_option(alloc))?
-        .arg(burst_option(alloc))?
-        .arg(events_option(alloc))
+    with_limits(alloc, command.arg(argument(alloc, Seed))?)
 }
 
 /// The command of a run with workers.
@@ -33,9 +39,9 @@ pub(crate) fn run_command<'a>(alloc: Global) -> Result<Command<'a>, AllocError>
     ensures { IfOk result (λ c. app_of c ≡ run_app) }
 {
     with_bounds(alloc, bare(alloc, "sanrun"))?
-        .arg(workers_option(alloc))?
-        .arg(window_option(alloc))?
-        .arg(rollbacks_option(alloc))
+        .arg(argument(alloc, Workers))?
+        .arg(argument(alloc, Window))?
+        .arg(argument(alloc, Rollbacks))
 }
 
 /// The command of a run in one thread.

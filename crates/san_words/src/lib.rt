@@ -1,14 +1,16 @@
 //! What the words of a command line order.
 #![tactic(auto)]
 
+mod argument;
 mod command;
-mod finding;
-mod hearing;
+mod matches;
 mod options;
 mod orders;
-mod said;
 #[cfg(test)]
 mod tests;
+mod values;
+mod words;
 
-pub use hearing::{hear, hear_plain};
+pub use options::{MAX_WORKERS, NumberOption, NumberRange};
 pub use orders::{Heard, Orders};
+pub use words::{hear, hear_plain};

@@ -1,83 +1,120 @@
-ghost use Rattle.std.specs.Prelude.{◌≡◌, false};
-ghost use Rattle.clap.specs.Words.{rule_of};
-ghost use Rattle.san_words.specs.Commands.{burst_rule, events_rule, horizon_rule, rollbacks_rule, seed_rule, window_rule, workers_rule};
+//! The table of the options: what each is called, the numbers that it takes, and its default.
 
-use clap::{Arg, ArgAction, value_parser};
-use std::alloc::Global;
+ghost use Rattle.std.specs.Prelude.{◌≡◌, decimal};
+ghost use Rattle.san_words.specs.Options.{least_of, most_of, optional, required, row_of};
+ghost use Rattle.san_words.specs.inner.Rows.{IsRow, default_of};
 
-pub(crate) fn seed_option<'a>(alloc: Global) -> Arg<'a>
-    ensures rule { rule_of result ≡ seed_rule }
-    ensures local { result.global ≡ false }
-{
-    Arg::new(alloc, "seed")
-        .long("seed")
-        .action(ArgAction::Set)
-        .required(true)
-        .value_parser(value_parser!(u64))
+use san_base::{MAX_BURST, MAX_EVENTS, MAX_HORIZON, MAX_ROLLBACKS, MAX_WINDOW};
+
+/// The most threads that run ahead, beside the caller.
+pub const MAX_WORKERS: u32 = 64;
+
+/// An option of the programs, which sets one whole number.
+#[derive(Clone, Copy, Debug, PartialEq, Eq)]
+pub enum NumberOption {
+    Seed,
+    Horizon,
+    Burst,
+    Events,
+    Workers,
+    Window,
+    Rollbacks,
 }
 
-pub(crate) fn horizon_option<'a>(alloc: Global) -> Arg<'a>
-    ensures rule { rule_of result ≡ horizon_rule }
-    ensures local { result.global ≡ false }
-{
-    Arg::new(alloc, "horizon")
-        .long("horizon")
-        .action(ArgAction::Set)
-        .required(true)
-        .value_parser(value_parser!(u64).range(0..=1_000_000_000_000))
+/// The least and the greatest number that an option takes.
+#[derive(Clone, Copy, Debug, PartialEq, Eq)]
+pub enum NumberRange {
+    /// A number of 64 bits.
+    Unsigned(u64, u64),
+    /// A number that clap reads as a signed one, so that 0 may be written `-0`.
+    Signed(u32, u32),
 }
 
-pub(crate) fn workers_option<'a>(alloc: Global) -> Arg<'a>
-    ensures rule { rule_of result ≡ workers_rule }
-    ensures local { result.global ≡ false }
-{
-    Arg::new(alloc, "workers")
-        .long("workers")
-        .action(ArgAction::Set)
-        .default_value("4")
-        .value_parser(value_parser!(u32).range(0..=64))
+impl NumberRange {
+    pub(crate) fn least(self) -> u64
+        ensures { result ≡ least_of self }
+    {
+        match self {
+            NumberRange::Unsigned(least, _) => least,
+            NumberRange::Signed(least, _) => u64::from(least),
+        }
+    }
+
+    pub(crate) fn most(self) -> u64
+        ensures { result ≡ most_of self }
+    {
+        match self {
+            NumberRange::Unsigned(_, most) => most,
+            NumberRange::Signed(_, most) => u64::from(most),
+        }
+    }
 }
 
-pub(crate) fn window_option<'a>(alloc: Global) -> Arg<'a>
-    ensures rule { rule_of result ≡ window_rule }
-    ensures local { result.global ≡ false }
-{
-    Arg::new(alloc, "window")
-        .long("window")
-        .action(ArgAction::Set)
-        .default_value("16")
-        .value_parser(value_parser!(u32).range(1..=64))
+/// A number, and the text that writes it.
+#[derive(Clone, Copy)]
+pub(crate) struct DefaultNumber<'a> {
+    pub(crate) number: u64,
+    pub(crate) text: &'a str,
 }
 
-pub(crate) fn rollbacks_option<'a>(alloc: Global) -> Arg<'a>
-    ensures rule { rule_of result ≡ rollbacks_rule }
-    ensures local { result.global ≡ false }
-{
-    Arg::new(alloc, "rollbacks")
-        .long("rollbacks")
-        .action(ArgAction::Set)
-        .default_value("10000")
-        .value_parser(value_parser!(u64).range(0..=1_000_000))
+/// A row of the table. Without a default the option must be there.
+#[derive(Clone, Copy)]
+pub(crate) struct OptionRow<'a> {
+    pub(crate) name: &'a str,
+    pub(crate) range: NumberRange,
+    pub(crate) default: Option<DefaultNumber<'a>>,
 }
 
-pub(crate) fn burst_option<'a>(alloc: Global) -> Arg<'a>
-    ensures rule { rule_of result ≡ burst_rule }
-    ensures local { result.global ≡ false }
-{
-    Arg::new(alloc, "burst")
-        .long("burst")
-        .action(ArgAction::Set)
-        .default_value("1000")
-        .value_parser(value_parser!(u32).range(1..=10_000))
+impl OptionRow<'_> {
+    /// The number where the option isn't there.
+    pub(crate) fn default_number(self) -> u64
+        ensures { result ≡ default_of self.entry.default }
+    {
+        match self.default {
+            Some(default) => default.number,
+            None => 0,
+        }
+    }
 }
 
-pub(crate) fn events_option<'a>(alloc: Global) -> Arg<'a>
-    ensures rule { rule_of result ≡ events_rule }
-    ensures local { result.global ≡ false }
+fn required<'a>(name: &'a str, range: NumberRange) -> OptionRow<'a>
+    ensures { IsRow (required name.entry.now range) result }
 {
-    Arg::new(alloc, "events")
-        .long("events")
-        .action(ArgAction::Set)
-        .default_value("1000000")
-        .value_parser(value_parser!(u64).range(1..=10_000_000))
+    OptionRow {
+        name,
+        range,
+        default: None,
+    }
+}
+
+fn optional<'a>(name: &'a str, range: NumberRange, number: u64, text: &'a str) -> OptionRow<'a>
+    requires { text.now ≡ decimal number }
+    ensures { IsRow (optional name.entry.now range number) result }
+{
+    OptionRow {
+        name,
+        range,
+        default: Some(DefaultNumber { number, text }),
+    }
+}
+
+/// The table.
+pub(crate) fn row<'a>(option: NumberOption) -> OptionRow<'a>
+    ensures { IsRow (row_of option) result }
+{
+    use NumberRange::{Signed, Unsigned};
+    match option {
+        NumberOption::Seed => required("seed", Unsigned(0, u64::MAX)),
+        NumberOption::Horizon => required("horizon", Unsigned(0, MAX_HORIZON)),
+        NumberOption::Burst => optional("burst", Signed(1, MAX_BURST), 1_000, "1000"),
+        NumberOption::Events => optional("events", Unsigned(1, MAX_EVENTS), 1_000_000, "1000000"),
+        NumberOption::Workers => optional("workers", Signed(0, MAX_WORKERS), 4, "4"),
+        NumberOption::Window => optional("window", Signed(1, MAX_WINDOW), 16, "16"),
+        NumberOption::Rollbacks => optional(
+            "rollbacks",
+            Unsigned(0, MAX_ROLLBACKS),
+            10_000,
+            "10000",
+        ),
+    }
 }

@@ -1,3 +1,5 @@
+//! A run as the words of a command line order it.
+
 use san_base::Limits;
 
 /// A run as the words order it.

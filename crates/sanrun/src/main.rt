@@ -1,9 +1,9 @@
 //! `sanrun`: a model on standard input, its report on standard output.
 #![tactic(auto)]
 
-use san_base::put_all;
-use san_cmd::{Status, run_words};
+use san_cmd::run_words;
 use san_host::{StdNotes, StdSink, StdSource, words_of};
+use san_serve::end_with;
 use std::alloc::Global;
 use std::process::ExitCode;
 
@@ -12,10 +12,9 @@ fn main(rt: HostRuntime) -> ExitCode {
     let mut source = StdSource::new(rt.reader());
     let mut sink = StdSink::new(rt.stdout());
     let mut notes = StdNotes::new(rt.stderr());
-    let Ok(words) = words_of(&rt) else {
-        let _ = put_all(&mut notes, b"memory\n");
-        return ExitCode::from(Status::NoMemory.code());
+    let status = match words_of(&rt) {
+        Ok(words) => run_words(alloc, words.as_slice(), &mut source, &mut sink, &mut notes),
+        Err(why) => end_with(why.status(), &mut notes),
     };
-    let status = run_words(alloc, words.as_slice(), &mut source, &mut sink, &mut notes);
     ExitCode::from(status.code())
 }

@@ -8,4 +8,4 @@ pub returns : goal.returns
 unfolding run_app
 returns c =
     let bounds = c.in_ok-with_bounds.ensures ∙ ap with_bounds c.bare.ensures in
-    IfOk-weaker c.arg-3.result _ _ (λ m h. h.shape c.rollbacks_option.ensures.local ∙ ap₂ with_rule (c.in_ok-arg-2.ensures.shape c.window_option.ensures.local ∙ ap₂ with_rule (c.in_ok-arg.ensures.shape c.workers_option.ensures.local ∙ ap₂ with_rule bounds c.workers_option.ensures.rule) c.window_option.ensures.rule) c.rollbacks_option.ensures.rule) c.arg-3.ensures
+    IfOk-weaker c.arg-3.result _ _ (λ m h. h.shape c.argument-3.ensures.local ∙ ap₂ with_rule (c.in_ok-arg-2.ensures.shape c.argument-2.ensures.local ∙ ap₂ with_rule (c.in_ok-arg.ensures.shape c.argument.ensures.local ∙ ap₂ with_rule bounds c.argument.ensures.rule) c.argument-2.ensures.rule) c.argument-3.ensures.rule) c.arg-3.ensures

@@ -18,4 +18,4 @@ pub replace-requires-clause-faults : goal.replace-requires-clause-faults
 replace-requires-clause-faults c = fault_in (the_view c.self.inside) c.args.self.now c.self.inside.present.items c.args.leaf.0 c.args.term (sym c.self.view_is) c.self.invariant c.requires.leaf c.requires.term c.reward_of-reward.result c.reward_of-reward.ensures c.put_rate-old.result c.put_rate-old.ensures.before
 
 pub invariant_of-self : goal.invariant_of-self
-invariant_of-self c = rate_keeps (the_view c.self.inside) c.args.self.now c.self.inside.present.items c.args.leaf.0 c.args.term (sym c.self.view_is) c.self.invariant c.requires.leaf c.requires.term c.reward_of-reward.result c.reward_of-reward.ensures c.put_rate-old.result c.put_rate-old.ensures.before c.told-rate.result _ c.replace.new.present.items (subst (IsAtMost (2 ^ 63)) (sym c.told-rate.ensures.value) c.told-rate.ensures.small) c.put_rate-old.ensures.after c.replace.ensures
+invariant_of-self c = rate_keeps (the_view c.self.inside) c.args.self.now c.self.inside.present.items c.args.leaf.0 c.args.term (sym c.self.view_is) c.self.invariant c.requires.leaf c.requires.term c.reward_of-reward.result c.reward_of-reward.ensures c.put_rate-old.result c.put_rate-old.ensures.before c.term_value-rate.result _ c.replace.new.present.items (subst (IsAtMost (2 ^ 63)) (sym c.term_value-rate.ensures.value) c.term_value-rate.ensures.small) c.put_rate-old.ensures.after c.replace.ensures

@@ -1,8 +1,0 @@
-use Rattle.std.proofs.Common.{ap, arith}
-use Rattle.san_reward.proofs.Equality.{differ}
-use Rattle.san_reward.proofs.equal.same_terms.Goals as goal
-
-pub returns-then-not-same_row : goal.returns-then-not-same_row
-returns-then-not-same_row c =
-    differ (λ v. v.items) c.args.a.now c.args.b.now c.loop-at.at c.index-a-at.result c.index-b-at.result c.index-a-at.result c.index-b-at.result c.same_row.result
-    (omega (arith, c.loop-at-test.true, c.loop-at.auto.at-end)) (omega (arith, c.loop-at-test.true, c.loop-at.auto.at-end, c.if-a-b.false)) (ap (λ v. v.items) c.index-a-at.is) (ap (λ v. v.items) c.index-b-at.is) c.same_row.ensures.1 c.if-not-same_row.true

@@ -1,5 +1,0 @@
-use Rattle.std.proofs.Common.{◌≡◌, map, take}
-use Rattle.san_reward.proofs.equal.same_terms.Given as goal
-
-abbrev pub invariant-loop-at : goal.invariant-loop-at
-invariant-loop-at l = map (λ v. v.items) (take l.at l.a) ≡ map (λ v. v.items) (take l.at l.b)

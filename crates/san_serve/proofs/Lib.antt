@@ -1,0 +1,5 @@
+pub mod AcceptanceLemmas
+pub mod OffsetLemmas
+pub mod NoteLemmas
+pub mod ServeLemmas
+pub mod SettledLemmas

@@ -1,0 +1,8 @@
+pub mod Accepted
+pub mod Answers
+pub mod Bounds
+pub mod Examples
+pub mod Notes
+pub mod Settled
+pub mod Tasks
+pub mod inner

@@ -1,0 +1,23 @@
+use Rattle.std.proofs.Common.{refl}
+use Rattle.std.specs.Fmt.{digits}
+use Rattle.san_words.proofs.options.row.Goals as goal
+
+pub optional-requires : goal.optional-requires
+unfolding digits
+optional-requires c = refl
+
+pub optional-requires-in-Events : goal.optional-requires-in-Events
+unfolding digits
+optional-requires-in-Events c = refl
+
+pub optional-requires-in-Workers : goal.optional-requires-in-Workers
+unfolding digits
+optional-requires-in-Workers c = refl
+
+pub optional-requires-in-Window : goal.optional-requires-in-Window
+unfolding digits
+optional-requires-in-Window c = refl
+
+pub optional-requires-in-Rollbacks : goal.optional-requires-in-Rollbacks
+unfolding digits
+optional-requires-in-Rollbacks c = refl

@@ -1,0 +1,65 @@
+-- The table of the options. Each sets one whole number in its range, and some have a default.
+use Rattle.std.specs.Prelude.{ℕ, List, [], ◌∷◌, Option, None, Some, codes, true, pos, unwrap_or}
+use Rattle.std.specs.Fmt.{decimal}
+use Rattle.std.specs.Option.{option_map}
+use Rattle.clap.specs.Walk.{Rule}
+use Rattle.clap.specs.Simple.{new_rule}
+use Rattle.clap.specs.declared.builder.action.ArgAction.TheVariants as action
+use Rattle.clap.specs.declared.builder.value_parser.ValueParser.{ValueParser}
+use Rattle.clap.specs.declared.builder.value_parser.ValueParser.TheVariants as parser
+use Rattle.san_base.specs.declared.limits.TheConstants.{MAX_BURST, MAX_EVENTS, MAX_HORIZON, MAX_ROLLBACKS, MAX_WINDOW}
+use Rattle.san_words.specs.declared.options.TheConstants.{MAX_WORKERS}
+use Rattle.san_words.specs.declared.options.NumberOption.{NumberOption}
+use Rattle.san_words.specs.declared.options.NumberOption.TheVariants.{Seed, Horizon, Burst, Events, Workers, Window, Rollbacks}
+use Rattle.san_words.specs.declared.options.NumberRange.{NumberRange}
+use Rattle.san_words.specs.declared.options.NumberRange.TheVariants.{Unsigned, Signed}
+
+-- what an option is called, the numbers that it takes, and the one that it has where it isn't there
+pub record Row : Type 0 where
+  pub name : List ℕ
+  pub range : NumberRange
+  pub default : Option ℕ
+
+-- one that must be there
+abbrev pub required : List ℕ → NumberRange → Row
+required name range = record { name = name; range = range; default = None }
+
+abbrev pub optional : List ℕ → NumberRange → ℕ → Row
+optional name range n = record { name = name; range = range; default = Some n }
+
+abbrev pub row_of : NumberOption → Row
+row_of Seed = required (codes "seed") (Unsigned 0 18446744073709551615)
+row_of Horizon = required (codes "horizon") (Unsigned 0 MAX_HORIZON)
+row_of Burst = optional (codes "burst") (Signed 1 MAX_BURST) 1000
+row_of Events = optional (codes "events") (Unsigned 1 MAX_EVENTS) 1000000
+row_of Workers = optional (codes "workers") (Signed 0 MAX_WORKERS) 4
+row_of Window = optional (codes "window") (Signed 1 MAX_WINDOW) 16
+row_of Rollbacks = optional (codes "rollbacks") (Unsigned 0 MAX_ROLLBACKS) 10000
+
+abbrev pub least_of : NumberRange → ℕ
+least_of (Unsigned least most) = least
+least_of (Signed least most) = least
+
+abbrev pub most_of : NumberRange → ℕ
+most_of (Unsigned least most) = most
+most_of (Signed least most) = most
+
+-- the number where the option isn't there; one that must be there has none
+abbrev pub default_in : Row → ℕ
+default_in row = unwrap_or row.default 0
+
+abbrev pub parser_of : NumberRange → ValueParser
+parser_of (Unsigned least most) = parser.Unsigned least most
+parser_of (Signed least most) = parser.Signed (pos least) (pos most)
+
+-- by the text of its default: one without must be there
+abbrev pub with_default : Option (List ℕ) → Rule → Rule
+with_default None rule = record rule { required = true }
+with_default (Some text) rule = record rule { defaults = text ∷ [] }
+
+abbrev pub rule_by : Row → Rule
+rule_by row = with_default (option_map decimal row.default) (record (new_rule row.name) { long = Some row.name; action = Some action.Set; parser = Some (parser_of row.range) })
+
+-- what clap is told of an option
+abbrev pub number_rule : NumberOption → Rule
+number_rule option = rule_by (row_of option)
