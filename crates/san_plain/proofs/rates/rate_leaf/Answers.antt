@@ -1,6 +1,6 @@
 use Rattle.std.proofs.Common.{arith}
 use Rattle.san_plain.proofs.RateLemmas.{no_terms, set_new}
-use Rattle.san_plain.proofs.rating.rate_leaf.Goals as goal
+use Rattle.san_plain.proofs.rates.rate_leaf.Goals as goal
 
 pub returns-else-terms-ne0-clause-value : goal.returns-else-terms-ne0-clause-value
 returns-else-terms-ne0-clause-value c =

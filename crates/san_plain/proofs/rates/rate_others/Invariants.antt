@@ -1,8 +1,8 @@
 use Rattle.std.proofs.Common.{◌≡◌, map, take}
 use Rattle.std.specs.List.{list_any}
 use Rattle.san_net.specs.Laid.{place_of}
-use Rattle.san_plain.specs.Following.{FollowsPlaces, differs_at}
-use Rattle.san_plain.proofs.rating.rate_others.Given as goal
+use Rattle.san_plain.specs.inner.Rates.{FollowsPlaces, differs_at}
+use Rattle.san_plain.proofs.rates.rate_others.Given as goal
 
 abbrev pub invariant-cells : goal.invariant-cells
 invariant-cells l = record {

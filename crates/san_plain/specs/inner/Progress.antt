@@ -8,24 +8,24 @@ use Rattle.san_law.specs.State.{State, opening_state}
 use Rattle.san_law.specs.Step as law
 use Rattle.san_law.specs.Trajectory.{Runs, Trajectory, trajectory}
 use Rattle.san_net.specs.Laid.{IsNetwork}
-use Rattle.san_report.specs.Lines.{ending_line}
+use Rattle.san_report.specs.Lines.{ending_line, reward_lines}
 use Rattle.san_report.specs.Puts.{EndsIn}
 use Rattle.san_reward.specs.Running.{IsOf, rates_in}
-use Rattle.san_plain.specs.Accounts.{Account, opened_account}
-use Rattle.san_plain.specs.Closings.{closing}
-use Rattle.san_plain.specs.Pages.{Sent}
-use Rattle.san_plain.specs.Reports.{Opened, ending_of, event_lines, net_by, report_of, reward_lines, worth_at}
-use Rattle.san_plain.specs.declared.run.Course.{Course}
+use Rattle.san_plain.specs.inner.Accounts.{RewardAccount, opened_account}
+use Rattle.san_report.specs.Closings.{closing}
+use Rattle.san_report.specs.Pages.{Sent}
+use Rattle.san_plain.specs.Reports.{Opened, ending_of, event_lines, net_by, report_of, worth_at}
+use Rattle.san_plain.specs.declared.run.RunInProgress.{RunInProgress}
 use Rattle.san_plain.specs.declared.run.Unwritten.{Unwritten}
 use Rattle.san_seq.specs.FlatRun.{On, Run, opening, steps_left}
 use Rattle.san_seq.specs.Telling.{ending_in}
 
 -- the run that a course was opened for
-abbrev pub opened_by : Course → Opened
+abbrev pub opened_by : RunInProgress → Opened
 opened_by c = record { network = c.flat.now; seed = c.seq.seed; limits = c.limits }
 
 -- no event came yet, and nothing was put
-pub record IsOpened (c : Course) : Type 0 where
+pub record IsOpened (c : RunInProgress) : Type 0 where
   pub range : IsInRange c.limits
   pub run : c.seq ≡ opening c.flat.now c.seq.seed c.limits
   pub rewards : c.account ≡ opened_account c.flat.now c.limits.horizon.0
@@ -33,7 +33,7 @@ pub record IsOpened (c : Course) : Type 0 where
   pub none : c.count ≡ 0
 
 -- an account has counted the events of a run that came to a state
-pub record HasCounted (o : Opened) (es : List law.Event) (s : State) (a : Account) : Type 0 where
+pub record HasCounted (o : Opened) (es : List law.Event) (s : State) (a : RewardAccount) : Type 0 where
   pub of_network : a.network ≡ o.network
   pub at_marking : a.marking ≡ s.marking
   pub is_of : IsOf (net_by o) a.running
@@ -46,7 +46,7 @@ abbrev pub run_at : Opened → State → Run
 run_at o s = record { network = o.network; seed = o.seed; limits = o.limits; going = On s }
 
 -- a run stands for a state that the law's run comes to by these events
-pub record Stands (o : Opened) (es : List law.Event) (s : State) (c : Course) : Type 0 where
+pub record Stands (o : Opened) (es : List law.Event) (s : State) (c : RunInProgress) : Type 0 where
   pub known : IsNetwork o.network
   pub range : IsInRange o.limits
   pub of_network : c.flat.now ≡ o.network
@@ -57,7 +57,7 @@ pub record Stands (o : Opened) (es : List law.Event) (s : State) (c : Course) : 
   pub many : c.count ≡ length es
 
 -- it does for some state of some run
-abbrev pub IsStanding : Course → Type 0
+abbrev pub IsStanding : RunInProgress → Type 0
 IsStanding c = (o : Opened) × (es : List law.Event) × (s : State) × Stands o es s c
 
 -- what is left of a report after events, by the rest of the run
@@ -66,18 +66,18 @@ left_after o es None = []
 left_after o es (Some t) = event_lines o.network (length es) t.events ++ (ending_line o.network (length (es ++ t.events)) (ending_in o.network t.time t.ending) ++ reward_lines o.network.rewards 0 (worth_at (net_by o) (es ++ t.events) t.ending))
 
 -- of the report all lines up to a run's state were put
-abbrev pub IsUnderWay : Opened → Option (List ℕ) → Option (List ℕ) → Course → Type 0
+abbrev pub IsUnderWay : Opened → Option (List ℕ) → Option (List ℕ) → RunInProgress → Type 0
 IsUnderWay o first now c = (es : List law.Event) × (s : State) × Stands o es s c × Sent first now c.pages (report_of o) (left_after o es (trajectory (net_by o) s))
 
 -- a run has ended, and of its report all but the closing lines were put
-pub record IsOver (o : Opened) (first now : Option (List ℕ)) (c : Course) (e : Ending) : Type 0 where
+pub record IsOver (o : Opened) (first now : Option (List ℕ)) (c : RunInProgress) (e : Ending) : Type 0 where
   pub outcome : ending_of o ≡ Some e
   pub within : EndsIn c.flat.now e
   pub spans : length c.account.running.spans ≡ length c.flat.now.rewards
-  pub put : Sent first now c.pages (report_of o) (closing c.flat.now c.account c.count e)
+  pub put : Sent first now c.pages (report_of o) (closing c.flat.now c.account.running c.count e)
 
 -- after a turn: the run goes on, with fewer steps to come, or has ended; or the sink failed
-abbrev pub TurnedTo : Opened → Option (List ℕ) → Result (Option Ending) Unwritten → Option (List ℕ) → Course → Course → Type 0
+abbrev pub TurnedTo : Opened → Option (List ℕ) → Result (Option Ending) Unwritten → Option (List ℕ) → RunInProgress → RunInProgress → Type 0
 TurnedTo o first (Ok None) now old c = IsUnderWay o first now c × (steps_left c.seq < steps_left old.seq)
 TurnedTo o first (Ok (Some e)) now old c = IsOver o first now c e
 TurnedTo o first (Err fault) now old c = AppendsPrefix first now (report_of o)

@@ -20,19 +20,19 @@ pub record Follows (n : Network) (m : List ℕ) (old new : Running) : Type 0 whe
   pub each : (j : ℕ) (p : Part) → slice_get n.parts j ≡ Some p → (rates_at new j ≡ rates_at old j) ⊎ (rates_at new j ≡ rates_of m p)
 
 -- those of some leaves are new, but for one leaf
-pub record FollowsAt (n : Network) (leaves : List LeafId) (but : ℕ) (m : List ℕ) (old new : Running) : Type 0 where
+pub record FollowsAt (n : Network) (leaves : List LeafId) (except : ℕ) (m : List ℕ) (old new : Running) : Type 0 where
   pub follows : Follows n m old new
-  pub anew : (k : ℕ) (leaf : LeafId) → slice_get leaves k ≡ Some leaf → leaf.0 ≢ but → AreNew n m new leaf.0
+  pub anew : (k : ℕ) (leaf : LeafId) → slice_get leaves k ≡ Some leaf → leaf.0 ≢ except → AreNew n m new leaf.0
 
 -- where a place has another value, those of the leaves that have it
-pub record FollowsPlace (n : Network) (place but : ℕ) (before m : List ℕ) (old new : Running) : Type 0 where
+pub record FollowsPlace (n : Network) (place except : ℕ) (before m : List ℕ) (old new : Running) : Type 0 where
   pub follows : Follows n m old new
-  pub anew : slice_index before place ≢ slice_index m place → (j i : ℕ) (p : Part) → slice_get n.parts j ≡ Some p → slice_get (places_of p) i ≡ Some place → j ≢ but → rates_at new j ≡ rates_of m p
+  pub anew : slice_index before place ≢ slice_index m place → (j i : ℕ) (p : Part) → slice_get n.parts j ≡ Some p → slice_get (places_of p) i ≡ Some place → j ≢ except → rates_at new j ≡ rates_of m p
 
 -- and where any of these places has
-pub record FollowsPlaces (n : Network) (places : List ℕ) (but : ℕ) (before m : List ℕ) (old new : Running) : Type 0 where
+pub record FollowsPlaces (n : Network) (places : List ℕ) (except : ℕ) (before m : List ℕ) (old new : Running) : Type 0 where
   pub follows : Follows n m old new
-  pub anew : (k q : ℕ) → slice_get places k ≡ Some q → slice_index before q ≢ slice_index m q → (j i : ℕ) (p : Part) → slice_get n.parts j ≡ Some p → slice_get (places_of p) i ≡ Some q → j ≢ but → rates_at new j ≡ rates_of m p
+  pub anew : (k q : ℕ) → slice_get places k ≡ Some q → slice_index before q ≢ slice_index m q → (j i : ℕ) (p : Part) → slice_get n.parts j ≡ Some p → slice_get (places_of p) i ≡ Some q → j ≢ except → rates_at new j ≡ rates_of m p
 
 -- a place has another value
 abbrev pub differs_at : List ℕ → List ℕ → ℕ → Bool

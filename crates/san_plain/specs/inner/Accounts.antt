@@ -10,20 +10,20 @@ use Rattle.san_net.specs.declared.part.Part.{Part}
 use Rattle.san_report.specs.Lines.{leaf_of}
 use Rattle.san_reward.specs.Running.{Running, advanced, opened, rates_in, terms_in, with_all_rates, with_impulses}
 
-pub record Account : Type 0 where
+pub record RewardAccount : Type 0 where
   pub network : Network
   pub running : Running
   pub marking : List ℕ
 
 -- the rates are those of the terms in the marking
-pub record IsAccount (a : Account) : Type 0 where
+pub record IsAccount (a : RewardAccount) : Type 0 where
   pub spans : a.running.spans ≡ map (λ r. span_in r.span) a.network.rewards
   pub terms : a.running.terms ≡ map terms_in a.network.parts
   pub sized : length a.marking ≡ length a.network.initial
   pub rates : a.running.tally.rates ≡ rates_in a.network a.marking
 
 -- before the first event
-abbrev pub opened_account : Network → ℕ → Account
+abbrev pub opened_account : Network → ℕ → RewardAccount
 opened_account n horizon = record { network = n; running = with_all_rates (opened n horizon) (rates_in n n.initial); marking = n.initial }
 
 -- the impulses of a leaf's activity, by its number in the network, in a marking
@@ -35,7 +35,7 @@ abbrev pub impulses_of : Network → ℕ → List ℕ → List Impulse
 impulses_of n act m = impulses_by (slice_get n.parts (leaf_of n act)) act m
 
 -- the present rates counted up to an event's time; from then on the rates are those of the marking that it reached, and its impulses are counted
-abbrev pub with_event : Account → Event → List ℕ → Account
+abbrev pub with_event : RewardAccount → Event → List ℕ → RewardAccount
 with_event a e m = record {
   network = a.network;
   running = with_impulses (with_all_rates (advanced a.running e.time.0) (rates_in a.network m)) (impulses_of a.network e.act.0 m);

@@ -3,10 +3,10 @@ use Rattle.std.specs.List.{list_any}
 use Rattle.san_net.specs.Laid.{place_of, places_of}
 use Rattle.san_net.specs.declared.part.Part.{Part}
 use Rattle.san_net.specs.declared.part.Slot.{Slot}
-use Rattle.san_plain.specs.Following.{FollowsPlaces, differs_at}
+use Rattle.san_plain.specs.inner.Rates.{FollowsPlaces, differs_at}
 use Rattle.san_plain.proofs.FollowLemmas.{all_new, all_rates, kept_caught, kept_same, none_new}
 use Rattle.san_plain.proofs.RateLemmas.{follows_on}
-use Rattle.san_plain.proofs.following.follow.Goals as goal
+use Rattle.san_plain.proofs.rates.update_rates.Goals as goal
 use Rattle.san_net.specs.Cells.{IsOver}
 use Rattle.san_net.proofs.CellLemmas.{CaughtUp, copied}
 use Rattle.san_net.proofs.PartLemmas.{lies_over}

@@ -1,6 +1,6 @@
 use Rattle.san_net.specs.Laid.{place_of}
 use Rattle.san_plain.proofs.RateLemmas.{part_at, place_private, private_place}
-use Rattle.san_plain.proofs.rating.rate_slot.Goals as goal
+use Rattle.san_plain.proofs.rates.rate_slot.Goals as goal
 
 pub returns-in-Private-clause-rates : goal.returns-in-Private-clause-rates
 returns-in-Private-clause-rates c =

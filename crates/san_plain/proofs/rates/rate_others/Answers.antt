@@ -7,8 +7,8 @@ use Rattle.san_net.specs.declared.part.Part.{Part}
 use Rattle.san_net.specs.declared.part.Slot.{Slot}
 use Rattle.san_net.specs.declared.part.Slot.TheVariants.{Private}
 use Rattle.san_plain.proofs.RateLemmas.{places_more, same_of}
-use Rattle.san_plain.specs.Following.{differs_at}
-use Rattle.san_plain.proofs.rating.rate_others.Goals as goal
+use Rattle.san_plain.specs.inner.Rates.{differs_at}
+use Rattle.san_plain.proofs.rates.rate_others.Goals as goal
 use Rattle.san_net.specs.Cells.{IsOver}
 use Rattle.san_net.proofs.PartLemmas.{lies_over}
 use Rattle.san_net.proofs.CellLemmas.{at_slot, cell_below, inside, slot_at}
