@@ -11,8 +11,8 @@ use Rattle.san_law.specs.State.{opening_state}
 use Rattle.san_law.specs.Step as law
 use Rattle.san_law.specs.Trajectory.{Trajectory, trajectory}
 use Rattle.san_net.specs.Network.{Network, net_of}
-use Rattle.san_probe.specs.declared.watching.Watched.{Watched}
-use Rattle.san_probe.specs.declared.watching.Watched.TheVariants.{Beyond, Stopped, Sum}
+use Rattle.san_probe.specs.declared.measured.Watched.{Watched}
+use Rattle.san_probe.specs.declared.measured.Watched.TheVariants.{Beyond, Stopped, Sum}
 use Rattle.san_seq.specs.Overs.{limits_in}
 use Rattle.san_seq.specs.Telling.{ending_in}
 

@@ -1,3 +1,5 @@
+//! Gauges: a number that a function gives for each marking.
+
 ghost use Rattle.std.specs.Prelude.{◌≡◌, ℤ, List, ℕ};
 ghost use Rattle.std.specs.Borrow.{Bor};
 ghost use Rattle.san_probe.specs.Markings.{IsMarkingOf};

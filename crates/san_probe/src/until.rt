@@ -1,3 +1,5 @@
+//! Conditions on markings that a function tells.
+
 ghost use Rattle.std.specs.Prelude.{◌≡◌, Bool, List, ℕ};
 ghost use Rattle.std.specs.Borrow.{Bor};
 ghost use Rattle.san_probe.specs.Markings.{IsMarkingOf};

@@ -2,7 +2,7 @@ use Rattle.std.proofs.Common.{rules, arith, ◌≡◌, ◌^◌, ◌*ℤ◌, pos,
 use Rattle.std.proofs.lemmas.Int.{fits_signed_mul, ints, to_z-of_z}
 use mir.Syntax.{w128}
 use Rattle.san_probe.proofs.WatchLemmas.{value_at_most}
-use Rattle.san_probe.proofs.watching.times.Goals as goal
+use Rattle.san_probe.proofs.measured.times.Goals as goal
 
 pub returns-clause-small : goal.returns-clause-small
 returns-clause-small c =

@@ -1,3 +1,5 @@
+//! A measure summed over the ticks of a run.
+
 ghost use Rattle.std.specs.Prelude.{◌≡◌, ◌+◌, ◌-◌, ◌+ℤ◌, ◌*ℤ◌, ◌*◌, ◌≤◌, ◌^◌, Some, IfOk, length, pos, unsigned_abs};
 ghost use Rattle.san_base.specs.Limits.{IsInRange};
 ghost use Rattle.san_probe.specs.Watching.{ticks_before, watched_of};
@@ -22,7 +24,7 @@ pub enum Watched {
 /// How far a run was watched: the sum over the ticks of the interval that were counted, how many
 /// these are, and the measure of the present marking.
 #[derive(Clone, Copy)]
-struct Course {
+struct Progress {
     sum: i128,
     counted: u64,
     value: i64,
@@ -47,14 +49,14 @@ fn times(value: i64, ticks: u64) -> i128
 }
 
 /// The sum once so many ticks are counted, up to which the value goes on.
-fn gone_on(course: Course, counted: u64) -> i128
-    requires sum { unsigned_abs course.sum ≤ course.counted * 2 ^ 63 }
-    requires later { course.counted ≤ counted }
+fn accrue(progress: Progress, counted: u64) -> i128
+    requires sum { unsigned_abs progress.sum ≤ progress.counted * 2 ^ 63 }
+    requires later { progress.counted ≤ counted }
     requires few { counted ≤ 2 ^ 40 }
-    ensures sum { result ≡ course.sum +ℤ course.value *ℤ pos (counted - course.counted) }
+    ensures sum { result ≡ progress.sum +ℤ progress.value *ℤ pos (counted - progress.counted) }
     ensures small { unsigned_abs result ≤ counted * 2 ^ 63 }
 {
-    course.sum + times(course.value, counted - course.counted)
+    progress.sum + times(progress.value, counted - progress.counted)
 }
 
 /// Sums a measure over the markings at the ends of the ticks from `from` to `to - 1` of a run from
@@ -75,7 +77,7 @@ pub fn watch<F: Reading, M: Measure>(
 {
     flat.is_network();
     let mut seq = Seq::open(alloc, flat, seed, limits)?;
-    let mut course = Course {
+    let mut progress = Progress {
         sum: 0,
         counted: 0,
         value: gauge.at(seq.marking()),
@@ -84,9 +86,9 @@ pub fn watch<F: Reading, M: Measure>(
         match seq.step() {
             Stepped::Event(event) => {
                 let counted = ticks_before(from, to, event.time.0);
-                let sum = gone_on(course, counted);
+                let sum = accrue(progress, counted);
                 let value = gauge.at(seq.marking());
-                course = Course {
+                progress = Progress {
                     sum,
                     counted,
                     value,
@@ -97,7 +99,7 @@ pub fn watch<F: Reading, M: Measure>(
                     return Ok(Watched::Beyond);
                 }
                 let counted = ticks_before(from, to, limits.horizon.0 + 1);
-                return Ok(Watched::Sum(gone_on(course, counted)));
+                return Ok(Watched::Sum(accrue(progress, counted)));
             }
             Stepped::Stopped(stop) => return Ok(Watched::Stopped(stop)),
         }
