@@ -70,7 +70,7 @@ times_at_most n ticks w h = rw (abs_times w ticks) (product (unsigned_abs w) tic
     product a zero h = omega arith
     product a (suc k) h = let more = product a k h in omega (arith, more, h)
 
-sum_at_most : (m k : ℕ) (sum w : Rated) → IsAtMost m sum → IsAtMost k w → IsAtMost (m + k) (plus sum w)
+pub sum_at_most : (m k : ℕ) (sum w : Rated) → IsAtMost m sum → IsAtMost k w → IsAtMost (m + k) (plus sum w)
 sum_at_most m k None w h l = tt
 sum_at_most m k (Some a) None h l = tt
 sum_at_most m k (Some a) (Some b) h l = let both = abs_plus a b in omega (arith, h, l, both)
