@@ -20,7 +20,8 @@ use Rattle.san_net.specs.Laid.{IsNetwork}
 use Rattle.san_net.specs.Network.{Network}
 use Rattle.san_net.specs.Tables.{importers_of}
 use Rattle.san_probe.specs.inner.Progress.{Stands, Watches, net_by, run_at, sum_until}
-use Rattle.san_probe.specs.Watching.{sum_values, ticks_before, value_at, watched_by, watched_in, watched_of}
+use Rattle.san_probe.specs.Watching.{sum_values, value_at, watched_by, watched_in, watched_of}
+use Rattle.san_probe.specs.inner.Progress.{ticks_before}
 use Rattle.san_probe.specs.declared.measured.Watched.{Watched}
 use Rattle.san_probe.proofs.OpeningLemmas.{initial_small}
 use Rattle.san_probe.proofs.SmallLemmas.{networks_small, step_small}

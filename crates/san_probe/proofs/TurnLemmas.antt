@@ -13,7 +13,8 @@ use Rattle.san_net.specs.Network.{Network}
 use Rattle.san_net.specs.Tables.{importers_of}
 use Rattle.san_probe.specs.inner.Progress.{Stands, Watches, net_by}
 use Rattle.san_probe.specs.Markings.{IsMarkingOf}
-use Rattle.san_probe.specs.Watching.{sum_values, ticks_before, value_at, watched_by, watched_of}
+use Rattle.san_probe.specs.Watching.{sum_values, value_at, watched_by, watched_of}
+use Rattle.san_probe.specs.inner.Progress.{ticks_before}
 use Rattle.san_probe.specs.declared.measured.Watched.{Watched}
 use Rattle.san_probe.specs.declared.measured.Watched.TheVariants.{Beyond, Stopped, Sum}
 use Rattle.san_probe.proofs.ProgressLemmas.{comes_to, end_told, event_told, later, stands_first, stands_on, stop_told, sum_whole, watches_on}

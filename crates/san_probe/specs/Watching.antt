@@ -25,10 +25,6 @@ sum_values f a (suc n) = f a +ℤ sum_values f (suc a) n
 abbrev pub value_at : (List ℕ → ℤ) → Net → List law.Event → ℕ → ℤ
 value_at measure net es t = measure (marked net (opening_state net) es t)
 
--- of the ticks from one to before another, how many are before a time
-abbrev pub ticks_before : ℕ → ℕ → ℕ → ℕ
-ticks_before from to time = (if nat_lt time to then time else to) - from
-
 -- a run that stopped has no sum, nor has an interval that passes the horizon
 abbrev pub watched_by : ℤ → ℕ → ℕ → Ending → Watched
 watched_by sum horizon to (ending.End h) = if nat_lt (horizon + 1) to then Beyond else Sum sum

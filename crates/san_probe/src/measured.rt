@@ -2,7 +2,8 @@
 
 ghost use Rattle.std.specs.Prelude.{◌≡◌, ◌+◌, ◌-◌, ◌+ℤ◌, ◌*ℤ◌, ◌*◌, ◌≤◌, ◌^◌, Some, IfOk, length, pos, unsigned_abs};
 ghost use Rattle.san_base.specs.Limits.{IsInRange};
-ghost use Rattle.san_probe.specs.Watching.{ticks_before, watched_of};
+ghost use Rattle.san_probe.specs.Watching.{watched_of};
+ghost use Rattle.san_probe.specs.inner.Progress.{ticks_before};
 
 use crate::gauge::{Gauge, Measure, Reading};
 use san_base::{Limits, NoMemory, Stop, Tick};

@@ -15,9 +15,11 @@ use Rattle.san_net.specs.declared.part.Part.{Part}
 use Rattle.san_net.specs.declared.part.Reward.{Reward}
 use Rattle.san_net.specs.declared.part.Span as interval
 use Rattle.san_net.specs.declared.part.Span.TheVariants as span
-use Rattle.san_reward.specs.Present.{IsAtMost, amount_in, amounts, faults, faults_in, no_present, present_at, present_of, terms_of}
-use Rattle.san_reward.specs.Present as counts
-use Rattle.san_reward.specs.Running.{IsCounted, no_rates, opened, running_of, terms_in}
+use Rattle.san_reward.specs.Smallness.{IsAtMost}
+use Rattle.san_reward.specs.inner.Present.{amount_in, amounts, faults, faults_in, no_present, present_at, present_of, terms_of}
+use Rattle.san_reward.specs.inner.Present as counts
+use Rattle.san_reward.specs.inner.Counted.{IsCounted}
+use Rattle.san_reward.specs.Running.{no_rates, opened, running_of, terms_in}
 use Rattle.san_reward.specs.declared.present.Present.{Present}
 
 -- one row more

@@ -18,7 +18,8 @@ use Rattle.san_net.specs.Leaf.{leaf_of, rate_in}
 use Rattle.san_net.specs.Network.{Network, net_of}
 use Rattle.san_net.specs.declared.atomic.RateTerm.{RateTerm}
 use Rattle.san_net.specs.declared.part.Part.{Part}
-use Rattle.san_reward.specs.Present.{IsAtMost, terms_in}
+use Rattle.san_reward.specs.Smallness.{IsAtMost}
+use Rattle.san_reward.specs.inner.Present.{terms_in}
 use Rattle.san_reward.specs.Smallness.{AreRated, IsSmallWorth}
 use Rattle.san_reward.proofs.Making.{few_in, spans_low}
 use Rattle.san_reward.proofs.Smallness.{sum_at_most, wider}

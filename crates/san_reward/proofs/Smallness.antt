@@ -4,7 +4,8 @@ use Rattle.std.specs.Prelude.{ℤ, pos, ◌+ℤ◌, ◌*ℤ◌, unsigned_abs, Al
 use Rattle.std.proofs.lemmas.Int.{ints, unsigned_abs-mul}
 use Rattle.san_law.specs.Net.{Rated}
 use Rattle.san_law.specs.Reward.{plus}
-use Rattle.san_reward.specs.Present.{IsAtMost, amount, amount_in, amounts, fault, faults, faults_in, accrued, shown, terms_in, terms_of, times}
+use Rattle.san_reward.specs.Smallness.{IsAtMost}
+use Rattle.san_reward.specs.inner.Present.{amount, amount_in, amounts, fault, faults, faults_in, accrued, shown, terms_in, terms_of, times}
 use Rattle.san_reward.specs.declared.present.Present.{Present}
 
 pub abs_plus : (a b : ℤ) → unsigned_abs (a +ℤ b) ≤ unsigned_abs a + unsigned_abs b

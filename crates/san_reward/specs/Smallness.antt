@@ -1,9 +1,14 @@
 -- How great a worth may be.
-use Rattle.std.specs.Prelude.{ℕ, ◌≤◌, ◌^◌, unsigned_abs, All, List, [], ◌∷◌}
+use Rattle.std.specs.Prelude.{ℕ, ◌≤◌, ◌^◌, unsigned_abs, All, List, [], ◌∷◌, None, Some}
 use Rattle.san_base.specs.declared.limits.TheConstants.{MAX_RATED}
 use Rattle.san_law.specs.Reward.{Beyond, Faulted, Mean, Sum, Worth}
 use Rattle.san_law.specs.Step.{Event}
-use Rattle.san_reward.specs.Present.{IsAtMost}
+use Rattle.san_law.specs.Net.{Rated}
+
+-- a number of at most so great an absolute value, or none
+abbrev pub IsAtMost : ℕ → Rated → Type 0
+IsAtMost n None = Unit {0}
+IsAtMost n (Some w) = unsigned_abs w ≤ n
 
 -- each impulse is the value of a term
 abbrev pub AreRated : List Event → Type 0

@@ -1,5 +1,5 @@
 -- How a run stands that is watched.
-use Rattle.std.specs.Prelude.{ℕ, ◌≡◌, ◌≤◌, ℤ, List, length}
+use Rattle.std.specs.Prelude.{ℕ, ◌-◌, ◌≡◌, ◌≤◌, ℤ, List, length, nat_lt, if◌then◌else◌}
 use Rattle.san_base.specs.declared.limits.Limits.{Limits}
 use Rattle.san_draw.specs.Key.{draw_of}
 use Rattle.san_law.specs.Net.{Net}
@@ -9,7 +9,7 @@ use Rattle.san_law.specs.Step as law
 use Rattle.san_law.specs.Trajectory.{Runs}
 use Rattle.san_net.specs.Network.{Network, net_of}
 use Rattle.san_probe.specs.Markings.{IsMarkingOf}
-use Rattle.san_probe.specs.Watching.{sum_values, ticks_before, value_at}
+use Rattle.san_probe.specs.Watching.{sum_values, value_at}
 use Rattle.san_seq.specs.FlatRun.{On, Run}
 use Rattle.san_seq.specs.Overs.{limits_in}
 
@@ -27,6 +27,10 @@ pub record Stands (n : Network) (seed : ℕ) (limits : Limits) (es : List law.Ev
   pub time : s.time ≡ now
   pub within : now ≤ limits.horizon.0
   pub marking : IsMarkingOf (length n.initial) s.marking
+
+-- of the ticks from one to before another, how many are before a time
+abbrev pub ticks_before : ℕ → ℕ → ℕ → ℕ
+ticks_before from to time = (if nat_lt time to then time else to) - from
 
 -- the sum over the ticks of an interval that are before a time
 abbrev pub sum_until : (List ℕ → ℤ) → Net → ℕ → ℕ → List law.Event → ℕ → ℤ

@@ -1,6 +1,6 @@
 use Rattle.std.proofs.Common.{ℕ, ◌*◌, ◌^◌, ◌≤◌, ◌≡◌, unsigned_abs}
 use Rattle.san_probe.specs.inner.Progress.{Watches}
-use Rattle.san_probe.specs.Watching.{ticks_before}
+use Rattle.san_probe.specs.inner.Progress.{ticks_before}
 use Rattle.san_seq.specs.FlatRun.{steps_left}
 use Rattle.san_probe.proofs.measured.watch.Given as goal
 

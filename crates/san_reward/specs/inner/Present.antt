@@ -55,11 +55,6 @@ times zero w = Some (pos 0)
 times (suc n) None = None
 times (suc n) (Some w) = Some (w *ℤ pos (suc n))
 
--- a number of at most so great an absolute value, or none
-abbrev pub IsAtMost : ℕ → Rated → Type 0
-IsAtMost n None = Unit {0}
-IsAtMost n (Some w) = unsigned_abs w ≤ n
-
 -- no rates
 abbrev pub no_present : Present
 no_present = record { sum = pos 0; faults = 0 }
@@ -87,6 +82,3 @@ counted_on spans present from to r sum = accrued sum (present_at present r) (ove
 abbrev pub replaced : Present → Rated → Rated → Present
 replaced p old new = record { sum = (p.sum -ℤ amount old) +ℤ amount new; faults = p.faults - fault old + fault new }
 
--- what a reward counts at a time, which is nothing outside of its interval
-abbrev pub counted_at : Span → ℕ → Rated → Rated
-counted_at s time w = if is_within s time then w else Some (pos 0)
