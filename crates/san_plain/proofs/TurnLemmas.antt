@@ -3,6 +3,7 @@ use Rattle.std.proofs.Common.{ℕ, ◌+◌, ◌^◌, ◌≤◌, ◌<◌, ◌≡�
 use Rattle.san_base.specs.declared.ending.Ending.{Ending}
 use Rattle.san_base.specs.declared.ending.Event.{Event}
 use Rattle.san_draw.specs.Key.{draw_of}
+use Rattle.san_law.proofs.Orders.{runs_append}
 use Rattle.san_law.proofs.Steps.{counted, runs_within}
 use Rattle.san_law.specs.Lawful.{IsLawful}
 use Rattle.san_law.specs.Net.{Net}
@@ -21,7 +22,7 @@ use Rattle.san_plain.specs.inner.Progress.{HasCounted, Stands, left_after, run_a
 use Rattle.san_report.specs.Pages.{Sent}
 use Rattle.san_plain.specs.Reports.{Opened, net_by, report_of}
 use Rattle.san_plain.specs.declared.run.RunInProgress.{RunInProgress}
-use Rattle.san_plain.proofs.CountLemmas.{counts_on, runs_on}
+use Rattle.san_plain.proofs.CountLemmas.{counts_on}
 use Rattle.san_plain.proofs.NumberLemmas.{act_below, impulses_same, reaches}
 use Rattle.san_plain.proofs.ReportLemmas.{line_first}
 use Rattle.san_plain.proofs.StepLemmas.{Completion, completes, fits_at}
@@ -156,7 +157,7 @@ module _ (o : Opened) (es : List law.Event) (s : State) (c : RunInProgress) (st 
       range = st.range;
       of_network = flat ∙ st.of_network;
       in_limits = limits ∙ st.in_limits;
-      runs = runs_on net es (opening_state net) s happened st.runs happens;
+      runs = runs_append net (opening_state net) s reached es (happened ∷ []) st.runs (happens, refl);
       at_state = seq ∙ (left ∙ (ap after_step st.at_state ∙ ap (λ g. record { network = o.network; seed = o.seed; limits = o.limits; going = g }) is_the_laws.left));
       counted = counted_on d.account account;
       many = omega (arith, count, st.many, length-append es (happened ∷ []));

@@ -15,6 +15,7 @@ use Rattle.san_law.specs.Standing.{AllTo}
 use Rattle.san_law.specs.State.{State, opening_state}
 use Rattle.san_law.specs.Step as law
 use Rattle.san_law.specs.Trajectory.{Runs, Trajectory, ran_by, run, trajectory}
+use Rattle.san_law.proofs.Orders.{runs_append}
 use Rattle.san_law.proofs.Trajectories.{rest_is_trajectory}
 use Rattle.san_net.specs.Laid.{IsNetwork}
 use Rattle.san_net.specs.Network.{Network}
@@ -55,11 +56,7 @@ end_told (Ok f) is = absurd cc
 end_told (Err (ending.End h)) is = (h, refl)
 end_told (Err (ending.Stop w)) is = absurd cc
 
--- one event more
-runs_on : (net : Net) (o s : State) (es : List law.Event) (e : law.Event) → Runs net o es s → (law.step net s).0 ≡ law.Happened e → Runs net o (es ++ e ∷ []) (law.step net s).1
-runs_on net o s [] e runs is = (ap (λ (u : State). (law.step net u).0) runs ∙ is, ap (λ (u : State). (law.step net u).1) runs)
-runs_on net o s (x ∷ es) e runs is = (runs.0, runs_on net (law.step net o).1 s es e runs.1 is)
-
+-- no event is later
 early_on : (a b : ℕ) (es : List law.Event) (e : law.Event) → a ≤ b → e.time ≤ b → AllTo a es → AllTo b (es ++ e ∷ [])
 early_on a b [] e h k early = (k, tt)
 early_on a b (x ∷ es) e h k early = (omega (arith, early.0, h), early_on a b es e h k early.1)
@@ -90,7 +87,7 @@ module _ (n : Network) (seed : ℕ) (limits : Limits) (net_is : IsNetwork n) whe
           let a = later in let b = time_is in let within = in_time.within in
           record {
             at_state = ap after_step st.at_state ∙ ap (λ g. let x : Run = record { network = n; seed = seed; limits = limits; going = g } in x) laws.left;
-            runs = runs_on net (opening_state net) s es laws.event st.runs laws.happens;
+            runs = runs_append net (opening_state net) s (law.step net s).1 es (laws.event ∷ []) st.runs (laws.happens, refl);
             early = early_on now e.time.0 es laws.event a (omega (arith, b)) st.early;
             time = in_time.present ∙ time_is;
             within = omega (arith, b, within);
