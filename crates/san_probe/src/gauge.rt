@@ -20,6 +20,7 @@ pub trait Reading {
     /// A call on this marking may answer this.
     ghost answers: { Self → List ℕ → ℤ → Type 0 };
 
+    /// The number for a marking.
     fn read(&self, marking: &[u32]) -> i64
         requires { accepts self.now marking.now }
         ensures { answers self.now marking.now result };

@@ -81,4 +81,3 @@ counted_on spans present from to r sum = accrued sum (present_at present r) (ove
 -- one rate in another's place
 abbrev pub replaced : Present → Rated → Rated → Present
 replaced p old new = record { sum = (p.sum -ℤ amount old) +ℤ amount new; faults = p.faults - fault old + fault new }
-
