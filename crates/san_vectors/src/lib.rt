@@ -3,6 +3,8 @@
 #![tactic(auto)]
 
 #[cfg(test)]
+mod chains;
+#[cfg(test)]
 mod draws;
 #[cfg(test)]
 mod flattened;
@@ -26,5 +28,7 @@ mod rewards;
 mod sequential;
 #[cfg(test)]
 mod streams;
+#[cfg(test)]
+mod versions;
 #[cfg(test)]
 mod winners;
