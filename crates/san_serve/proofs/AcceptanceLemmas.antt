@@ -22,7 +22,8 @@ use Rattle.san_flat.specs.Networks.{Composition, composition_in, count_of_acts, 
 use Rattle.san_flat.specs.declared.network.FlatFault.{FlatFault}
 use Rattle.san_flat.specs.declared.network.FlatFault.TheVariants as fault
 use Rattle.san_net.specs.Network.{Network}
-use Rattle.san_serve.specs.Accepted.{AcceptsNetwork, accepted, accepted_syntax, checked, composition_of, limit_of, offset_of_word, within_limits}
+use Rattle.san_serve.specs.Accepted.{accepted, accepted_syntax, checked, composition_of, limit_of, offset_of_word, within_limits}
+use Rattle.san_serve.specs.inner.Accepted.{AcceptsNetwork}
 use Rattle.san_base.specs.declared.limits.TheConstants.{MAX_ACTS, MAX_LEAVES, MAX_PLACES, MAX_TEXT_BYTES}
 use Rattle.san_serve.specs.declared.codes.TheConstants.{TOO_MANY_ACTS, TOO_MANY_LEAVES, TOO_MANY_PLACES}
 use Rattle.san_serve.specs.declared.acceptance.NotAccepted.{NotAccepted}

@@ -58,11 +58,6 @@ abbrev pub Refuses : NotAccepted → Result Network Refusal → Type 0
 Refuses (not_accepted.Refused refusal) read = read ≡ Err refusal
 Refuses not_accepted.NoMemory read = Unit {0}
 
--- the network, unless memory ran out
-abbrev pub AcceptsNetwork : Result Network NotAccepted → Result Network Refusal → Type 0
-AcceptsNetwork (Ok network) read = read ≡ Ok network
-AcceptsNetwork (Err e) read = Refuses e read
-
 -- what was answered is what the text is, unless memory ran out
 abbrev pub Accepts : Result Accepted NotAccepted → List ℕ → Type 0
 Accepts (Ok a) text = (parsed text ≡ Ok a.parsed) × (accepted text ≡ Ok a.flat)
