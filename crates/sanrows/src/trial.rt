@@ -268,13 +268,19 @@ pub(crate) fn fault_of(alloc: Global, row: &Row<'_>) -> Result<Option<Fault>, No
     if row.value("calls").is_none() {
         return Ok(Some("names no call"));
     }
+    let begins = row.value("begins").is_some();
+    let notes = if begins {
+        row.notes.strip_suffix("\n").unwrap_or(row.notes)
+    } else {
+        row.notes
+    };
     let mut trial = Trial {
         wanted: Wanted {
             status,
             output: row.output.as_bytes(),
             ends: row.value("ends").is_some(),
-            notes: row.notes.as_bytes(),
-            begins: row.value("begins").is_some(),
+            notes: notes.as_bytes(),
+            begins,
         },
         lists,
         first: None,
