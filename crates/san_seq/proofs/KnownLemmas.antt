@@ -1,5 +1,5 @@
 -- Leaves that aren't stale stay idle through a step.
-use Rattle.std.proofs.Common.{ℕ, zero, suc, ◌+◌, ◌<◌, ◌≡◌, ◌≢◌, ◌∙◌, ◌⊎◌, inl, inr, ap, sym, refl, subst, arith, List, [], ◌∷◌, length, Option, Some, None, Result, Ok, Err, IfOk, Bool, true, false, slice_index, slice_set, nat_eq}
+use Rattle.std.proofs.Common.{replicate, ℕ, zero, suc, ◌+◌, ◌<◌, ◌≡◌, ◌≢◌, ◌∙◌, ◌⊎◌, inl, inr, ap, sym, refl, subst, arith, List, [], ◌∷◌, length, Option, Some, None, Result, Ok, Err, IfOk, Bool, true, false, slice_index, slice_set, nat_eq}
 use Rattle.std.specs.Prelude.{slice_get}
 use Rattle.std.proofs.lemmas.Bool.{eqb-true}
 use Rattle.std.proofs.lemmas.List.{get_or-set_other}
@@ -11,7 +11,7 @@ use Rattle.san_law.specs.Net.{Done, Faulty, Fresh, Found, Net, Nothing, Renewing
 use Rattle.san_law.specs.Network.{Limits as Bounds}
 use Rattle.san_law.specs.Next.{Next, Stable, found_at}
 use Rattle.san_law.specs.Renewal.{AllFresh, Due, FaultAt, Renewal, and_rest, renewed_at, renewed_from, renewed_then}
-use Rattle.san_law.specs.State.{State, gather, index_of, local_of, or_next, repeated, scatter, slots_of, taken_from}
+use Rattle.san_law.specs.State.{State, gather, index_of, local_of, or_next, scatter, slots_of, taken_from}
 use Rattle.san_law.specs.Step as law
 use Rattle.san_net.specs.Laid.{places_of}
 use Rattle.san_net.specs.Leaf.{first_in, leaf_of}
@@ -25,13 +25,14 @@ use Rattle.san_seq.specs.Renewals.{renewed_part}
 use Rattle.san_seq.specs.Rows.{row_at}
 use Rattle.san_seq.specs.States.{Told, told_by}
 use Rattle.san_seq.specs.Running.{told_in}
-use Rattle.san_seq.specs.declared.stepping.Completion.{Completion}
-use Rattle.san_seq.specs.declared.stepping.Ended.{Ended}
+use Rattle.san_seq.specs.declared.step.Completion.{Completion}
+use Rattle.san_seq.specs.declared.step.Ended.{Ended}
 use Rattle.san_seq.proofs.NextLemmas.{cut}
-use Rattle.san_seq.proofs.PartLemmas.{lies_over, places_are}
+use Rattle.san_net.proofs.PartLemmas.{lies_over, places_are}
 use Rattle.san_seq.proofs.RowLemmas.{part_renewed}
 use Rattle.san_seq.proofs.RunningLemmas.{scattered}
-use Rattle.san_seq.proofs.TouchLemmas.{gather_at, gather_eq}
+use Rattle.san_seq.proofs.TouchLemmas.{gather_at}
+use Rattle.san_net.proofs.CellLemmas.{gather_eq}
 
 not_false : (o : Option Bool) → o ≡ Some true → o ≡ Some false → {A : Type 0} → A
 not_false o a b = cc
@@ -217,18 +218,18 @@ idle_after n draw bounds j part u v old new is within moved touched own long kno
         one_place k q e was marking (inr f) = touched.equal f.0 i k q p f.1 at down e
 
 -- before the first step all leaves are stale
-all_up : (many j : ℕ) → (let xs : List Bool = repeated many true in slice_get xs j) ≡ Some false → {A : Type 0} → A
+all_up : (many j : ℕ) → (let xs : List Bool = replicate many true in slice_get xs j) ≡ Some false → {A : Type 0} → A
 all_up zero j e = cc
 all_up (suc many) zero e = cc
 all_up (suc many) (suc j) e = all_up many j e
 
-length_repeated : {A : Type 0} (k : ℕ) (a : A) → length (repeated k a) ≡ k
-length_repeated zero a = refl
-length_repeated (suc k) a = ap suc (length_repeated k a)
+length_replicate : {A : Type 0} (k : ℕ) (a : A) → length (replicate k a) ≡ k
+length_replicate zero a = refl
+length_replicate (suc k) a = ap suc (length_replicate k a)
 
-pub all_are_stale : (n : Network) (draw : ℕ → ℕ → ℕ) (stale : List Bool) (s : State) → stale ≡ repeated (length n.parts) true → AreIdle n draw stale s
+pub all_are_stale : (n : Network) (draw : ℕ → ℕ → ℕ) (stale : List Bool) (s : State) → stale ≡ replicate (length n.parts) true → AreIdle n draw stale s
 all_are_stale n draw stale s is = record {
-  sized = ap length is ∙ length_repeated (length n.parts) true;
+  sized = ap length is ∙ length_replicate (length n.parts) true;
   idle = λ j p at down. all_up (length n.parts) j (ap (λ (xs : List Bool). slice_get xs j) (sym is) ∙ down);
 }
 

@@ -7,7 +7,7 @@ use Rattle.san_law.specs.Step as law
 use Rattle.san_net.specs.Network.{Network, net_of}
 use Rattle.san_seq.specs.Overs.{instant_in, over_in}
 use Rattle.san_seq.specs.States.{complete_in}
-use Rattle.san_seq.specs.declared.limited.Over.{Over}
+use Rattle.san_seq.specs.declared.limits.Over.{Over}
 
 -- where no limit stops it, the activity completes
 pub instant_is : (n : Network) (draw : ℕ → ℕ → ℕ) (limits : Limits) (v s : State) (j k : ℕ) (o : Option Over) → v ≡ s

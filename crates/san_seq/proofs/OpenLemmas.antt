@@ -16,7 +16,7 @@ use Rattle.san_seq.specs.Openings.{rows_of}
 use Rattle.san_seq.specs.Overs.{limits_in}
 use Rattle.san_seq.specs.Rows.{IsRowOf, row_at}
 use Rattle.san_seq.specs.Running.{IsRunning}
-use Rattle.san_seq.proofs.PartLemmas.{part_is}
+use Rattle.san_net.proofs.PartLemmas.{part_is}
 use Rattle.san_seq.proofs.RangeLemmas.{all_numbered}
 
 blanks_from : (any : net.Net) (ps : List Part) (j : ℕ) → ((i : ℕ) (p : Part) → slice_get ps i ≡ Some p → any.acts (j + i) ≡ length p.atomic.acts)

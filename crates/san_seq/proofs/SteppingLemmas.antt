@@ -12,9 +12,9 @@ use Rattle.san_net.specs.Network.{Network, net_of}
 use Rattle.san_seq.specs.Overs.{instant_in, limits_in, over_in, told_case}
 use Rattle.san_seq.specs.Running.{IsDrawn, IsRunning, Steps, told_in, with_rows}
 use Rattle.san_seq.specs.States.{Told, told_by}
-use Rattle.san_seq.specs.declared.limited.Over.{Over}
-use Rattle.san_seq.specs.declared.stepping.Completion.{Completion}
-use Rattle.san_seq.specs.declared.stepping.Ended.{Ended}
+use Rattle.san_seq.specs.declared.limits.Over.{Over}
+use Rattle.san_seq.specs.declared.step.Completion.{Completion}
+use Rattle.san_seq.specs.declared.step.Ended.{Ended}
 use Rattle.san_seq.proofs.RunningLemmas.{by_done}
 
 pub any_ok : (r : Result Completion Ended) (P : Type 0) → P → IfOk r (λ c. P)

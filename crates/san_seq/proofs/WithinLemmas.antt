@@ -18,9 +18,10 @@ use Rattle.san_net.specs.Network.{Network, net_of, network_in}
 use Rattle.san_seq.specs.Rows.{AreRows, row_at}
 use Rattle.san_seq.specs.Running.{IsRunning}
 use Rattle.san_seq.specs.States.{told_by}
-use Rattle.san_seq.specs.Telling.{IsActOf, IsEndingOf, IsToldOf}
+use Rattle.san_net.specs.Tables.{IsActOf}
+use Rattle.san_seq.specs.Telling.{IsEndingOf, IsToldOf}
 use Rattle.san_seq.proofs.NextLemmas.{cut}
-use Rattle.san_seq.proofs.PartLemmas.{part_is}
+use Rattle.san_net.proofs.PartLemmas.{part_is}
 use Rattle.san_seq.proofs.RangeLemmas.{act_is_of, acts_next, all_numbered, due_within, next_in_range}
 
 -- as many timers as before, or a fault of an activity below a number

@@ -17,8 +17,8 @@ use Rattle.san_seq.specs.Known.{AreIdle}
 use Rattle.san_seq.specs.Overs.{limits_in}
 use Rattle.san_seq.specs.Running.{IsRunning}
 use Rattle.san_seq.specs.Telling.{ending_in, told_of, trajectory_in}
-use Rattle.san_seq.specs.declared.flat_run.Going as code
-use Rattle.san_seq.specs.declared.flat_run.Going.TheVariants as going
+use Rattle.san_seq.specs.declared.seq.Going as code
+use Rattle.san_seq.specs.declared.seq.Going.TheVariants as going
 use Rattle.san_seq.specs.declared.steps.Trajectory.{Trajectory}
 
 -- a run goes on from a state, or is over: with the marking that it left, and its ending

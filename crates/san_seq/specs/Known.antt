@@ -1,5 +1,5 @@
 -- What is known of the leaves that aren't stale: nothing there has changed since the last stable marking.
-use Rattle.std.specs.Prelude.{ℕ, ◌≡◌, Bool, true, false, ◌⊎◌, List, length, Some, slice_get, slice_index}
+use Rattle.std.specs.Prelude.{ℕ, ◌≡◌, Bool, true, false, List, length, Some, slice_get, slice_index}
 use Rattle.san_base.specs.declared.numbers.LeafId.{LeafId}
 use Rattle.san_law.specs.Net as net
 use Rattle.san_law.specs.State.{State, gather}
@@ -50,12 +50,6 @@ pub record TouchedAll (n : Network) (places : List ℕ) (stable m : List ℕ) (o
   pub sized : length new ≡ length old
   pub kept : StayUp old new
   pub equal : (k j i q : ℕ) (p : Part) → slice_get places k ≡ Some q → slice_get n.parts j ≡ Some p → slice_get new j ≡ Some false → slice_get (places_of p) i ≡ Some q → slice_index stable q ≡ slice_index m q
-
--- the last stable marking has the values of some places, and else its own or the marking's
-pub record CaughtUp (places m old new : List ℕ) : Type 0 where
-  pub sized : length new ≡ length old
-  pub kept : (q : ℕ) → (slice_index new q ≡ slice_index old q) ⊎ (slice_index new q ≡ slice_index m q)
-  pub caught : (i q : ℕ) → slice_get places i ≡ Some q → slice_index new q ≡ slice_index m q
 
 -- leaves that aren't stale have the same values in both
 abbrev pub HaveSame : List Part → List Bool → List ℕ → List ℕ → Type 0

@@ -6,8 +6,8 @@ use Rattle.san_law.specs.State.{State}
 use Rattle.san_law.specs.Step as law
 use Rattle.san_net.specs.Network.{Network, net_of}
 use Rattle.san_seq.specs.States.{Told, complete_in}
-use Rattle.san_seq.specs.declared.limited.Over.{Over}
-use Rattle.san_seq.specs.declared.limited.Over.TheVariants as over
+use Rattle.san_seq.specs.declared.limits.Over.{Over}
+use Rattle.san_seq.specs.declared.limits.Over.TheVariants as over
 
 abbrev pub over_in : Over → law.Ending
 over_in over.End = law.End

@@ -8,8 +8,8 @@ use Rattle.san_net.specs.Network.{Network}
 use Rattle.san_seq.specs.Overs.{over_in}
 use Rattle.san_seq.specs.Rows.{AreDrawn, AreRows, row_at}
 use Rattle.san_seq.specs.States.{Told, told_by}
-use Rattle.san_seq.specs.declared.stepping.Completion.{Completion}
-use Rattle.san_seq.specs.declared.stepping.Ended.{Ended}
+use Rattle.san_seq.specs.declared.step.Completion.{Completion}
+use Rattle.san_seq.specs.declared.step.Ended.{Ended}
 
 -- no case draw's number is greater
 abbrev pub AreCounted : ℕ → List Row → Type 0

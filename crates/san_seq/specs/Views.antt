@@ -2,17 +2,11 @@
 use Rattle.std.specs.Prelude.{ℕ, List, [], ◌++◌, length, slice_get, None}
 use Rattle.san_expr.specs.View.{Sight}
 use Rattle.san_law.specs.State.{gather, scatter}
-use Rattle.san_law.specs.Lawful.{AllBelow, AreDistinct}
 
 -- the places of the leaf's cells, and the marking
 pub record Seen : Type 0 where
   pub places : List ℕ
   pub marking : List ℕ
-
--- the leaf's places are different ones of the marking
-pub record IsOver (places marking : List ℕ) : Type 0 where
-  pub apart : AreDistinct places
-  pub within : AllBelow places (length marking)
 
 -- the marking without the leaf's values
 abbrev pub outside : List ℕ → List ℕ → List ℕ

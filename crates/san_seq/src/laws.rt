@@ -1,3 +1,5 @@
+//! Laws: what the events of a run are.
+
 ghost use Rattle.std.specs.Prelude.{◌≡◌, ◌<◌, ℕ, List, length, Option, Some};
 ghost use Rattle.san_law.specs.Network.{Limits};
 ghost use Rattle.san_law.specs.Next.{next_instant};

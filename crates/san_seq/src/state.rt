@@ -1,3 +1,5 @@
+//! The state of a run, and a completion in it.
+
 ghost use Rattle.std.specs.Prelude.{◌≡◌, ◌≤◌, ◌<◌, ◌+◌, ◌*◌, ◌^◌, ℕ, length, slice_get, slice_index, Some};
 ghost use Rattle.san_draw.specs.Key.{draw_of};
 ghost use Rattle.san_law.specs.Network.{Limits};
@@ -6,9 +8,9 @@ ghost use Rattle.san_net.specs.declared.part.Part.{Part};
 ghost use Rattle.san_seq.specs.Rows.{AreRows, row_at};
 ghost use Rattle.san_seq.specs.States.{case_by, complete_in, told_by};
 
-use crate::completion::completed_at;
-use crate::rows::Row;
+use crate::completion::complete_at;
 use san_base::{LeafId, Trap};
+use san_clock::Row;
 use san_draw::Streams;
 use san_net::Flat;
 use std::marker::Model;
@@ -61,7 +63,7 @@ pub(crate) fn complete(
     ensures streams { streams.new ≡ streams.old }
 {
     let mut rows = state.rows;
-    let (case, marking) = completed_at(
+    let (case, marking) = complete_at(
         flat,
         streams,
         leaf,

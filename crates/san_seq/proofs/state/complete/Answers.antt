@@ -9,8 +9,8 @@ use Rattle.san_seq.specs.Rows.{IsRowOf}
 use Rattle.san_seq.proofs.StateLemmas.{completes, if_err, kept, left_with, lent, told_in, traps}
 use Rattle.san_seq.proofs.state.complete.Goals as goal
 
-pub completed_at-case-requires-clause-row : goal.completed_at-case-requires-clause-row
-completed_at-case-requires-clause-row c = λ p is.
+pub complete_at-case-requires-clause-row : goal.complete_at-case-requires-clause-row
+complete_at-case-requires-clause-row c = λ p is.
     let h : c.args.leaf.0 < length c.args.state.rows = omega (arith, c.requires.leaf, c.requires.rows.each) in
     subst (λ (r : Row). IsRowOf p r) (sym (lent _ c.args.state c.args.leaf.0 c.index_mut.result.now c.index_mut.ensures.value c.state.view_is h)) (c.requires.rows.fit c.args.leaf.0 p is)
 
@@ -18,41 +18,41 @@ pub returns-in-Ok-clause-told : goal.returns-in-Ok-clause-told
 returns-in-Ok-clause-told c = λ limits.
     let h : c.args.leaf.0 < length c.args.state.rows = omega (arith, c.requires.leaf, c.requires.rows.each) in
     let draw = draw_of c.args.streams.now.seed in
-    let m = c.completed_at-case.result.1.items in
-    let row = c.completed_at-case.new.row in
+    let m = c.complete_at-case.result.1.items in
+    let row = c.complete_at-case.new.row in
     (completes (net_of c.args.flat.now draw limits) c.args.state c.args.burst c.args.leaf.0 c.args.act c.in-Ok.case m row
-    (ap (λ (x : Result ℕ Trap). completed_by x m row) (sym c.in-Ok.is) ∙ c.completed_at-case.ensures.done limits
+    (ap (λ (x : Result ℕ Trap). completed_by x m row) (sym c.in-Ok.is) ∙ c.complete_at-case.ensures.done limits
     ∙ told_in c.args.flat.now draw limits _ c.args.state c.args.leaf.0 c.args.act c.index_mut.result.now c.index_mut.ensures.value c.state.view_is h)).0
 
 pub returns-in-Ok-clause-left : goal.returns-in-Ok-clause-left
 returns-in-Ok-clause-left c = λ limits.
     let h : c.args.leaf.0 < length c.args.state.rows = omega (arith, c.requires.leaf, c.requires.rows.each) in
     let draw = draw_of c.args.streams.now.seed in
-    let m = c.completed_at-case.result.1.items in
-    let row = c.completed_at-case.new.row in
+    let m = c.complete_at-case.result.1.items in
+    let row = c.complete_at-case.new.row in
     ap (λ (x : State). left_with x c.args.burst c.args.leaf.0 m row) c.state.view_is
     ∙ (completes (net_of c.args.flat.now draw limits) c.args.state c.args.burst c.args.leaf.0 c.args.act c.in-Ok.case m row
-    (ap (λ (x : Result ℕ Trap). completed_by x m row) (sym c.in-Ok.is) ∙ c.completed_at-case.ensures.done limits
+    (ap (λ (x : Result ℕ Trap). completed_by x m row) (sym c.in-Ok.is) ∙ c.complete_at-case.ensures.done limits
     ∙ told_in c.args.flat.now draw limits _ c.args.state c.args.leaf.0 c.args.act c.index_mut.result.now c.index_mut.ensures.value c.state.view_is h)).1
 
 pub returns-in-Err-clause-told : goal.returns-in-Err-clause-told
 returns-in-Err-clause-told c = λ limits.
     let h : c.args.leaf.0 < length c.args.state.rows = omega (arith, c.requires.leaf, c.requires.rows.each) in
     let draw = draw_of c.args.streams.now.seed in
-    let m = c.completed_at-case.result.1.items in
-    let row = c.completed_at-case.new.row in
+    let m = c.complete_at-case.result.1.items in
+    let row = c.complete_at-case.new.row in
     (traps (net_of c.args.flat.now draw limits) c.args.state c.args.burst c.args.leaf.0 c.args.act c.in-Err.trap m row
-    (ap (λ (x : Result ℕ Trap). completed_by x m row) (sym c.in-Err.is) ∙ c.completed_at-case.ensures.done limits
+    (ap (λ (x : Result ℕ Trap). completed_by x m row) (sym c.in-Err.is) ∙ c.complete_at-case.ensures.done limits
     ∙ told_in c.args.flat.now draw limits _ c.args.state c.args.leaf.0 c.args.act c.index_mut.result.now c.index_mut.ensures.value c.state.view_is h)).0
 
 pub returns-in-Err-clause-left : goal.returns-in-Err-clause-left
 returns-in-Err-clause-left c = λ limits.
     let h : c.args.leaf.0 < length c.args.state.rows = omega (arith, c.requires.leaf, c.requires.rows.each) in
     let draw = draw_of c.args.streams.now.seed in
-    let m = c.completed_at-case.result.1.items in
-    let row = c.completed_at-case.new.row in
-    let still = if_err c.completed_at-case.result.0 c.in-Err.trap (λ trap. (m ≡ c.state.inside.marking.items) × (row ≡ c.index_mut.result.now)) c.in-Err.is c.completed_at-case.ensures.trap in
+    let m = c.complete_at-case.result.1.items in
+    let row = c.complete_at-case.new.row in
+    let still = if_err c.complete_at-case.result.0 c.in-Err.trap (λ trap. (m ≡ c.state.inside.marking.items) × (row ≡ c.index_mut.result.now)) c.in-Err.is c.complete_at-case.ensures.trap in
     kept _ c.args.state c.args.leaf.0 m c.index_mut.result.now row still.0 still.1 c.index_mut.ensures.value c.state.view_is
     ∙ (traps (net_of c.args.flat.now draw limits) c.args.state c.args.burst c.args.leaf.0 c.args.act c.in-Err.trap m row
-    (ap (λ (x : Result ℕ Trap). completed_by x m row) (sym c.in-Err.is) ∙ c.completed_at-case.ensures.done limits
+    (ap (λ (x : Result ℕ Trap). completed_by x m row) (sym c.in-Err.is) ∙ c.complete_at-case.ensures.done limits
     ∙ told_in c.args.flat.now draw limits _ c.args.state c.args.leaf.0 c.args.act c.index_mut.result.now c.index_mut.ensures.value c.state.view_is h)).1
