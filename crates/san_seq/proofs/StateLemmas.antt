@@ -9,7 +9,7 @@ use Rattle.san_net.specs.Network.{Network}
 use Rattle.san_seq.specs.Completions.{completed_by, leaf_told, told_of}
 use Rattle.san_seq.specs.Rows.{row_at}
 use Rattle.san_seq.proofs.RowLemmas.{any_row}
-use Rattle.san_seq.specs.States.{Told, case_by, told_by}
+use Rattle.san_seq.proofs.ToldLemmas.{Told, case_by, told_by}
 
 -- a state after a completion
 abbrev pub left_with : State → ℕ → ℕ → List ℕ → Row → State

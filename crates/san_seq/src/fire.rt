@@ -35,7 +35,6 @@ pub(crate) fn fire(flat: &Flat, stale: &mut Flags, due: Due, state: State) -> St
         stable,
         rows,
         burst: 0,
-        last: state.last,
-        count: state.count,
+        ..state
     }
 }
