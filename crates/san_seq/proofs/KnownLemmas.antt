@@ -18,12 +18,12 @@ use Rattle.san_net.specs.Leaf.{first_in, leaf_of}
 use Rattle.san_net.specs.Network.{Network, net_of}
 use Rattle.san_net.specs.declared.part.Part.{Part}
 use Rattle.san_law.specs.Clocks.{renewed_row}
-use Rattle.san_seq.specs.Known.{AreFresh, AreIdle, AreQuiet, AreSettled, HaveNothing, HaveSame, IsIdle, TouchedAll}
-use Rattle.san_seq.specs.Nexts.{first_by, first_from, first_of_part, next_among}
-use Rattle.san_seq.specs.States.{instant_in}
+use Rattle.san_seq.specs.inner.Known.{AreFresh, AreIdle, AreQuiet, AreSettled, HaveNothing, HaveSame, IsIdle, TouchedAll}
+use Rattle.san_seq.specs.inner.Nexts.{first_by, first_from, first_of_part, next_among}
+use Rattle.san_seq.specs.inner.States.{instant_in}
 use Rattle.san_seq.specs.Telling.{told_of}
-use Rattle.san_seq.specs.Renewals.{renewed_part}
-use Rattle.san_seq.specs.Rows.{row_at}
+use Rattle.san_seq.specs.inner.Renewals.{renewed_part}
+use Rattle.san_seq.specs.inner.Rows.{row_at}
 use Rattle.san_base.specs.declared.ending.Ending.{Ending}
 use Rattle.san_base.specs.declared.ending.Event.{Event}
 use Rattle.san_seq.proofs.ToldLemmas.{Told, happened, told_by}

@@ -4,7 +4,7 @@ use Rattle.san_law.specs.Network.{Limits}
 use Rattle.san_law.specs.State.{State}
 use Rattle.san_law.specs.Step as law
 use Rattle.san_net.specs.Network.{Network, net_of}
-use Rattle.san_seq.specs.States.{complete_in, instant_in}
+use Rattle.san_seq.specs.inner.States.{complete_in, instant_in}
 
 -- where no limit stops it, the activity completes
 pub instant_is : (n : Network) (draw : ℕ → ℕ → ℕ) (limits : Limits) (v s : State) (j k : ℕ) → v ≡ s

@@ -12,8 +12,8 @@ use Rattle.san_law.specs.Next.{Next, next_instant}
 use Rattle.san_law.specs.Step as law
 use Rattle.san_net.specs.Network.{Network, net_of}
 use Rattle.san_seq.specs.Overs.{limits_in}
-use Rattle.san_seq.specs.States.{instant_in}
-use Rattle.san_seq.specs.Running.{IsDrawn, IsRunning, Steps, with_rows}
+use Rattle.san_seq.specs.inner.States.{instant_in}
+use Rattle.san_seq.specs.inner.Running.{IsDrawn, IsRunning, Steps, with_rows}
 use Rattle.san_seq.specs.Telling.{ending_in, told_of}
 use Rattle.san_seq.proofs.ToldLemmas.{Told, happened, told_by}
 use Rattle.san_seq.proofs.RunningLemmas.{by_done}

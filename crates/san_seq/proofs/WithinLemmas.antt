@@ -12,7 +12,7 @@ use Rattle.san_law.specs.Renewal as law
 use Rattle.san_law.specs.State.{State, gather, slots_of}
 use Rattle.san_net.specs.Leaf.{leaf_of}
 use Rattle.san_net.specs.Network.{Network, net_of, network_in}
-use Rattle.san_seq.specs.Rows.{row_at}
+use Rattle.san_seq.specs.inner.Rows.{row_at}
 use Rattle.san_net.specs.Tables.{IsActOf}
 use Rattle.san_seq.proofs.RangeLemmas.{act_is_of}
 

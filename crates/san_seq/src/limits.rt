@@ -8,8 +8,8 @@ ghost use Rattle.san_net.specs.Laid.{acts_of};
 ghost use Rattle.san_net.specs.Network.{Network, net_of};
 ghost use Rattle.san_net.specs.Tables.{IsActOf};
 ghost use Rattle.san_seq.specs.Overs.{limits_in};
-ghost use Rattle.san_seq.specs.Rows.{AreRows, row_at};
-ghost use Rattle.san_seq.specs.States.{instant_in};
+ghost use Rattle.san_seq.specs.inner.Rows.{AreRows, row_at};
+ghost use Rattle.san_seq.specs.inner.States.{instant_in};
 ghost use Rattle.san_seq.specs.Telling.{ending_in, told_of};
 
 use crate::state::{State, complete};

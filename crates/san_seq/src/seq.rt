@@ -5,7 +5,8 @@ ghost use Rattle.san_base.specs.Limits.{IsInRange};
 ghost use Rattle.san_draw.specs.Key.{draw_of};
 ghost use Rattle.san_net.specs.Network.{net_of};
 ghost use Rattle.san_seq.specs.FlatRun as run;
-ghost use Rattle.san_seq.specs.Nexts.{next_in};
+ghost use Rattle.san_seq.specs.inner.Held as held;
+ghost use Rattle.san_seq.specs.inner.Nexts.{next_in};
 ghost use Rattle.san_seq.specs.Overs.{limits_in};
 ghost use Rattle.san_seq.specs.Telling.{stepped_of};
 
@@ -43,7 +44,8 @@ pub struct Seq<'a> {
 }
 
 impl<'a> Model for Seq<'a> {
-    ghost use Rattle.san_seq.specs.FlatRun.{IsHeld, Run, going_of};
+    ghost use Rattle.san_seq.specs.FlatRun.{Run, going_of};
+    ghost use Rattle.san_seq.specs.inner.Held.{IsHeld};
     ghost use Rattle.san_net.specs.contracts.part.Part as of_part;
     ghost use Rattle.std.specs.Coded.{codes};
 
@@ -66,12 +68,12 @@ fn stepped(
     stale: &mut Flags,
     phase: Phase,
 ) -> (Result<Event, Ending>, Phase)
-    requires run { run.IsRun flat.now limits.now streams.old.streams streams.old.seed
+    requires run { held.IsRun flat.now limits.now streams.old.streams streams.old.seed
         stale.old (run.going_in phase) }
     ensures step { (result.0, run.going_in result.1)
         ≡ run.stepped flat.now (net_of flat.now (draw_of streams.old.seed) (limits_in limits.now))
         (run.going_in phase) }
-    ensures run { run.IsRun flat.now limits.now streams.old.streams streams.old.seed
+    ensures run { held.IsRun flat.now limits.now streams.old.streams streams.old.seed
         stale.new (run.going_in result.1) }
     ensures streams { streams.new ≡ streams.old }
 {
@@ -102,7 +104,7 @@ fn where_stable(next: Next, state: &State) -> Option<Stable>
 
 /// Where a phase of a run is stable.
 fn stable_at(flat: &Flat, stale: &Flags, limits: &Limits, phase: &Phase) -> Option<Stable>
-    requires { (streams seed : ℕ) × run.IsRun flat.now limits.now streams seed stale.now
+    requires { (streams seed : ℕ) × held.IsRun flat.now limits.now streams seed stale.now
         (run.going_in phase.now) }
     ensures { (draw : ℕ → ℕ → ℕ) → result
         ≡ run.stable_in (net_of flat.now draw (limits_in limits.now)) (run.going_in phase.now) }

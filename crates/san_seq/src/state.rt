@@ -6,8 +6,8 @@ ghost use Rattle.san_law.specs.Network.{Limits};
 ghost use Rattle.san_law.specs.Step as law_step;
 ghost use Rattle.san_net.specs.Laid.{acts_of};
 ghost use Rattle.san_net.specs.Tables.{IsActOf};
-ghost use Rattle.san_seq.specs.Rows.{AreRows, row_at};
-ghost use Rattle.san_seq.specs.States.{complete_in};
+ghost use Rattle.san_seq.specs.inner.Rows.{AreRows, row_at};
+ghost use Rattle.san_seq.specs.inner.States.{complete_in};
 ghost use Rattle.san_seq.specs.Telling.{ending_in, told_of};
 
 use crate::completion::complete_at;

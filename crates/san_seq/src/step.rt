@@ -11,12 +11,12 @@ ghost use Rattle.san_law.specs.Step as law_step;
 ghost use Rattle.san_net.specs.Laid.{acts_of};
 ghost use Rattle.san_net.specs.Network.{net_of};
 ghost use Rattle.san_base.specs.Limits.{IsInRange};
-ghost use Rattle.san_seq.specs.Dues.{due_in};
-ghost use Rattle.san_seq.specs.Known.{AreFresh, AreIdle, AreQuiet, AreSettled, HaveNothing, HaveSame};
-ghost use Rattle.san_seq.specs.Nexts.{next_in};
+ghost use Rattle.san_seq.specs.inner.Dues.{due_in};
+ghost use Rattle.san_seq.specs.inner.Known.{AreFresh, AreIdle, AreQuiet, AreSettled, HaveNothing, HaveSame};
+ghost use Rattle.san_seq.specs.inner.Nexts.{next_in};
 ghost use Rattle.san_seq.specs.Overs.{limits_in};
-ghost use Rattle.san_seq.specs.Rows.{AreDrawn, AreRows, IsLike, renewal_by, row_at};
-ghost use Rattle.san_seq.specs.Running.{IsDrawn, IsRunning, Steps, with_rows};
+ghost use Rattle.san_seq.specs.inner.Rows.{AreDrawn, AreRows, IsLike, renewal_by, row_at};
+ghost use Rattle.san_seq.specs.inner.Running.{IsDrawn, IsRunning, Steps, with_rows};
 
 use crate::due::{Due, least_due};
 use crate::fire::fire;

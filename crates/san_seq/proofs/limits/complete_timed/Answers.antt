@@ -4,7 +4,7 @@ use Rattle.san_draw.specs.Key.{draw_of}
 use Rattle.san_law.specs.State.{State}
 use Rattle.san_law.specs.Step as law
 use Rattle.san_seq.specs.Overs.{limits_in}
-use Rattle.san_seq.specs.States.{complete_in}
+use Rattle.san_seq.specs.inner.States.{complete_in}
 use Rattle.san_seq.specs.Telling.{ending_in, told_of}
 use Rattle.san_seq.proofs.LimitLemmas.{timed_is}
 use Rattle.san_seq.proofs.ToldLemmas.{no_limit, stopped}

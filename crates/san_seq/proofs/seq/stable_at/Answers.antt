@@ -1,7 +1,8 @@
 use Rattle.std.proofs.Common.{◌∙◌, ap, subst, sym}
 use Rattle.san_draw.specs.Key.{draw_of}
 use Rattle.san_net.specs.Network.{net_of}
-use Rattle.san_seq.specs.FlatRun.{IsGoing, going_in, stable_in, where_stable}
+use Rattle.san_seq.specs.FlatRun.{going_in, stable_in, where_stable}
+use Rattle.san_seq.specs.inner.Held.{IsGoing}
 use Rattle.san_seq.specs.declared.seq.Phase.{Phase}
 use Rattle.san_seq.specs.Overs.{limits_in}
 use Rattle.san_seq.proofs.KnownLemmas.{have_nothing}

@@ -8,9 +8,9 @@ use Rattle.san_law.specs.Net.{Row}
 use Rattle.san_law.specs.State.{State}
 use Rattle.san_law.specs.Step.{Trapped}
 use Rattle.san_net.specs.Network.{net_of}
-use Rattle.san_seq.specs.Completions.{completed_by}
-use Rattle.san_seq.specs.Rows.{IsRowOf}
-use Rattle.san_seq.specs.States.{complete_in}
+use Rattle.san_seq.specs.inner.Completions.{completed_by}
+use Rattle.san_seq.specs.inner.Rows.{IsRowOf}
+use Rattle.san_seq.specs.inner.States.{complete_in}
 use Rattle.san_seq.specs.Telling.{ending_in}
 use Rattle.san_seq.proofs.ToldLemmas.{case_told}
 use Rattle.san_seq.proofs.StateLemmas.{completes, if_err, kept, left_with, lent, told_in, traps}

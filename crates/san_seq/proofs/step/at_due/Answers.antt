@@ -3,9 +3,9 @@ use Rattle.san_draw.specs.Key.{draw_of}
 use Rattle.san_law.specs.State.{State}
 use Rattle.san_law.specs.Step.{at_due, fire}
 use Rattle.san_net.specs.Network.{net_of}
-use Rattle.san_seq.specs.Dues.{due_in}
+use Rattle.san_seq.specs.inner.Dues.{due_in}
 use Rattle.san_seq.specs.Overs.{limits_in}
-use Rattle.san_seq.specs.Running.{IsDrawn}
+use Rattle.san_seq.specs.inner.Running.{IsDrawn}
 use Rattle.san_seq.proofs.KnownLemmas.{fire_sized, if_told, timed_known}
 use Rattle.san_seq.proofs.RunningLemmas.{counted_small, fired_drawn}
 use Rattle.san_seq.proofs.SteppingLemmas.{due_fires, steps_like, timed_runs}

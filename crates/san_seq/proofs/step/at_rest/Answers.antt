@@ -8,13 +8,13 @@ use Rattle.san_law.specs.Renewal as law
 use Rattle.san_law.specs.State.{State}
 use Rattle.san_law.specs.Step.{End, Stepped, Trapped, at_due, at_rest}
 use Rattle.san_net.specs.Network.{net_of}
-use Rattle.san_seq.specs.Dues.{due_in}
+use Rattle.san_seq.specs.inner.Dues.{due_in}
 use Rattle.san_seq.specs.Overs.{limits_in}
 use Rattle.san_seq.specs.Telling.{ending_in}
-use Rattle.san_seq.specs.Rows.{renewal_by, row_at}
-use Rattle.san_seq.specs.Running.{Steps}
+use Rattle.san_seq.specs.inner.Rows.{renewal_by, row_at}
+use Rattle.san_seq.specs.inner.Running.{Steps}
 use Rattle.san_seq.proofs.RangeLemmas.{due_within, rows_small}
-use Rattle.san_seq.specs.Known.{AreQuiet, HaveSame}
+use Rattle.san_seq.specs.inner.Known.{AreQuiet, HaveSame}
 use Rattle.san_seq.proofs.KnownLemmas.{are_fresh, have_same, quiet_after}
 use Rattle.san_seq.proofs.RunningLemmas.{renewed_drawn}
 use Rattle.san_seq.proofs.WithinLemmas.{fault_within}

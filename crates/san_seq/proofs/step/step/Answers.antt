@@ -4,10 +4,10 @@ use Rattle.san_law.specs.Next as law
 use Rattle.san_law.specs.State.{State}
 use Rattle.san_law.specs.Step.{Stepped, Trapped, step}
 use Rattle.san_net.specs.Network.{net_of}
-use Rattle.san_seq.specs.Nexts.{next_in}
+use Rattle.san_seq.specs.inner.Nexts.{next_in}
 use Rattle.san_seq.specs.Overs.{limits_in}
-use Rattle.san_seq.specs.States.{instant_in}
-use Rattle.san_seq.specs.Running.{Steps}
+use Rattle.san_seq.specs.inner.States.{instant_in}
+use Rattle.san_seq.specs.inner.Running.{Steps}
 use Rattle.san_seq.proofs.RangeLemmas.{acts_next, next_in_range}
 use Rattle.san_seq.specs.Telling.{ending_in}
 use Rattle.san_seq.proofs.KnownLemmas.{have_nothing, if_told, instant_known, instant_sized, settled}

@@ -7,7 +7,7 @@ use Rattle.san_law.specs.Net.{Row}
 use Rattle.san_law.specs.State.{State}
 use Rattle.san_law.specs.Step as law
 use Rattle.san_net.specs.Network.{Network}
-use Rattle.san_seq.specs.Rows.{AreDrawn, AreRows, row_at}
+use Rattle.san_seq.specs.inner.Rows.{AreDrawn, AreRows, row_at}
 use Rattle.san_seq.specs.Telling.{told_of}
 
 -- no case draw's number is greater
