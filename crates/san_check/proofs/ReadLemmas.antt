@@ -21,7 +21,8 @@ use Rattle.san_text.specs.Models.{syntax_at, head_at, starts_model, model_at, at
 use Rattle.san_text.proofs.FrontLemmas.{bind_ok, ok_is, next_is}
 use Rattle.san_text.proofs.StepLemmas.{signed}
 use Rattle.san_text.proofs.LocalLemmas.{Local, name_local, all_local}
-use Rattle.san_text.proofs.LocalGrammarLemmas.{places_listed, inputs_listed, timing_local, priority_local, acts_listed, models_listed, head_local}
+use Rattle.san_text.proofs.LocalGrammarLemmas.{places_listed, inputs_listed, timing_local, priority_local, acts_listed}
+use Rattle.san_text.proofs.LocalModelLemmas.{models_listed, head_local}
 use Rattle.san_check.specs.Formed.{IsFormedDist, IsFormedTiming}
 
 -- ---- lists

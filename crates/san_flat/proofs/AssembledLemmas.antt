@@ -7,9 +7,10 @@ use Rattle.std.proofs.lemmas.Option.{slice_get-get_or}
 use Rattle.san_check.specs.declared.model.Model.{Model}
 use Rattle.san_flat.proofs.LeafLemmas.{home-found}
 use Rattle.san_flat.specs.Homes.{CellHome, homes_in, same}
-use Rattle.san_flat.specs.Networks.{homes_of, leaves_of, network_in, network_of_model, parts_from, value_at, values_of}
-use Rattle.san_flat.specs.Sightings.{AreAmong, IsSeen, picked}
-use Rattle.san_flat.specs.Texts.{path_text}
+use Rattle.san_flat.specs.Networks.{network_in, network_of_model, value_at}
+use Rattle.san_flat.specs.inner.Models.{homes_of, leaves_of, parts_from, values_of}
+use Rattle.san_flat.specs.inner.Sightings.{AreAmong, IsSeen, picked}
+use Rattle.san_flat.specs.Paths.{path_text}
 use Rattle.san_flat.specs.declared.seen.Seen.{Seen}
 use Rattle.san_net.specs.Network.{network_of}
 use Rattle.san_net.specs.Numbering.{firsts, is_often, often, ordered, repeated}

@@ -13,8 +13,9 @@ use Rattle.san_flat.proofs.NumberLemmas.{at-number, count-through}
 use Rattle.san_flat.proofs.SightLemmas.{eq-seen}
 use Rattle.san_check.specs.declared.model.Model.{Model}
 use Rattle.san_flat.specs.Homes.{CellHome, homes_in, same, home_of_key}
-use Rattle.san_flat.specs.Networks.{homes_from, slot_of, values_from, values_in}
-use Rattle.san_flat.specs.Sightings.{AreAmong, AreNumbers, Sees}
+use Rattle.san_flat.specs.Networks.{slot_of, values_in}
+use Rattle.san_flat.specs.inner.Models.{homes_from, values_from}
+use Rattle.san_flat.specs.inner.Sightings.{AreAmong, AreNumbers, Sees}
 use Rattle.san_flat.specs.declared.home.HomeKey.{HomeKey}
 use Rattle.san_flat.specs.declared.numbers.Numbers.{Numbers}
 use Rattle.san_flat.specs.declared.seen.Seen.{Seen}

@@ -11,7 +11,8 @@ use Rattle.san_flat.proofs.ListLemmas.{apart-map, some-inj}
 use Rattle.san_flat.proofs.TreePaths.{IsPath, paths-are}
 use Rattle.san_check.specs.Composed.{IsComposed}
 use Rattle.san_flat.specs.Homes.{CellHome, cells_at, home_of, homes_in, rows_of, same}
-use Rattle.san_flat.specs.Networks.{atomic_at, leaf_count, leaves_of, no_atomic, values_in}
+use Rattle.san_flat.specs.Networks.{atomic_at, leaf_count, no_atomic, values_in}
+use Rattle.san_flat.specs.inner.Models.{leaves_of}
 use Rattle.san_net.specs.Apart.{AreApart}
 use Rattle.san_net.specs.Numbering.{all_of}
 use Rattle.san_tree.proofs.ApartLemmas.{home-apart}

@@ -16,8 +16,10 @@ use Rattle.san_flat.proofs.TextLemmas.{AreNamed, texts-tell, texts-unbroken}
 use Rattle.san_flat.proofs.TreePaths.{IsPath, paths-are}
 use Rattle.san_flat.proofs.ValueLemmas.{cell-valued}
 use Rattle.san_flat.specs.Homes.{CellHome, homes_in, rows_of, same}
-use Rattle.san_flat.specs.Networks.{act_count, atomic_at, homes_of, leaf_count, leaves_of, network_in, network_of_model, part_of, parts_from, place_count, slot_at, slot_of, value_at, values_of}
-use Rattle.san_flat.specs.Texts.{path_text}
+use Rattle.san_flat.specs.Networks.{atomic_at, leaf_count, network_in, network_of_model, slot_at, slot_of, value_at}
+use Rattle.san_flat.specs.inner.Models.{act_count, place_count}
+use Rattle.san_flat.specs.inner.Models.{homes_of, leaves_of, part_of, parts_from, values_of}
+use Rattle.san_flat.specs.Paths.{path_text}
 use Rattle.san_net.specs.Accepted.{IsAccepted, rewards_of}
 use Rattle.san_net.specs.Apart.{AreApart}
 use Rattle.san_net.specs.Laid.{EachPart, IsNetwork, IsSlotted, IsTagged, IsValued, MayBeTold, acts_of, all_places, is_blank, place_of}

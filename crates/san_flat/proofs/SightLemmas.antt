@@ -7,7 +7,7 @@ use Rattle.std.proofs.lemmas.List.{length-map, map-append}
 use Rattle.san_flat.proofs.HomeLemmas.{same-equiv, or-true}
 use Rattle.san_flat.specs.Homes.{CellHome, same, home_of_key}
 use Rattle.san_flat.specs.Networks.{value_at}
-use Rattle.san_flat.specs.Sightings.{IsSeen, Sees}
+use Rattle.san_flat.specs.inner.Sightings.{IsSeen, Sees}
 use Rattle.san_flat.specs.declared.home.HomeKey.{HomeKey}
 use Rattle.san_flat.specs.declared.seen.Seen.{Seen}
 use Rattle.san_net.proofs.SeenLemmas.{list_any-map, or-false}

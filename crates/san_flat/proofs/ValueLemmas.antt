@@ -9,7 +9,8 @@ use Rattle.san_flat.proofs.LeafLemmas.{Composes, IsPlaced, node_of, placed, row-
 use Rattle.san_flat.proofs.ListLemmas.{got-map}
 use Rattle.san_flat.proofs.NumberLemmas.{same-is}
 use Rattle.san_flat.specs.Homes.{CellHome, cells_at, home_of, homes_in, rows_of, same}
-use Rattle.san_flat.specs.Networks.{atomic_at, homes_of, leaf_count, leaves_of, value_at, values_in, values_of}
+use Rattle.san_flat.specs.Networks.{atomic_at, leaf_count, value_at, values_in}
+use Rattle.san_flat.specs.inner.Models.{homes_of, leaves_of, values_of}
 use Rattle.san_net.specs.Numbering.{all_of}
 use Rattle.san_tree.proofs.ValueLemmas.{home-kept}
 use Rattle.san_tree.specs.Places.{reached}

@@ -4,7 +4,7 @@ use Rattle.std.specs.Prelude.{ℕ, ◌+◌, nat_lt, if◌then◌else◌, List, [
 use Rattle.std.specs.List.{sum_by}
 use Rattle.san_check.specs.declared.model.Model.{Model}
 use Rattle.san_flat.specs.Homes.{Cells, CellHome, homes_in, rows_of, same}
-use Rattle.san_flat.specs.Texts.{path_text}
+use Rattle.san_flat.specs.Paths.{path_text}
 use Rattle.san_net.specs.Network.{Network}
 use Rattle.san_net.specs.Numbering.{all_of, firsts, number, ordered, repeated}
 use Rattle.san_net.specs.declared.atomic.Atomic.{Atomic}
@@ -113,38 +113,8 @@ count_of_acts c = acts_among c (leaves_in c)
 
 -- ---- the same of a model
 
-abbrev pub leaves_of : Model → List Instance
-leaves_of m = leaves_in (composition_in m)
-
-abbrev pub homes_from : Model → List Instance → List CellHome
-homes_from m leaves = homes_among (composition_in m) leaves
-
-abbrev pub homes_of : Model → List CellHome
-homes_of m = all_homes (composition_in m)
-
-abbrev pub values_from : Model → List Instance → List ℕ
-values_from m leaves = values_among (composition_in m) leaves
-
-abbrev pub values_of : Model → List ℕ
-values_of m = all_values (composition_in m)
-
-abbrev pub part_of : Model → ℕ → ℕ → Instance → Part
-part_of m leaf first i = part_in (composition_in m) leaf first i
-
-abbrev pub parts_from : Model → ℕ → ℕ → List Instance → List Part
-parts_from m leaf first is = parts_in (composition_in m) leaf first is
-
 abbrev pub network_of_model : Model → Network
 network_of_model m = network_in (composition_in m)
 
 abbrev pub leaf_count : Model → ℕ
 leaf_count m = count_of_leaves (composition_in m)
-
-abbrev pub place_count : Model → ℕ
-place_count m = count_of_places (composition_in m)
-
-abbrev pub acts_in : Model → List Instance → ℕ
-acts_in m leaves = acts_among (composition_in m) leaves
-
-abbrev pub act_count : Model → ℕ
-act_count m = count_of_acts (composition_in m)

@@ -1,4 +1,7 @@
+//! What a cell of a leaf is in the network.
+
 ghost use Rattle.std.specs.Prelude.{◌≡◌, IfOk};
+ghost use Rattle.san_tree.specs.declared.limits.TheConstants.{MAX_PATH};
 ghost use Rattle.san_flat.specs.Homes.{home_of, home_of_key};
 ghost use Rattle.san_tree.specs.Instances.{IsWithin};
 
@@ -18,13 +21,13 @@ pub struct HomeKey {
 
 /// The home of a cell of a leaf, which is a place and its element.
 #[tactic(auto, using(crate::proofs::HomeLemmas::kept_length))]
-pub fn home_of(
+pub(crate) fn home_of(
     alloc: Global,
     model: &Model,
     leaf: &Instance,
     cell: (u32, u32),
 ) -> Result<HomeKey, NoMemory>
-    requires { IsWithin 255 leaf.now }
+    requires { IsWithin MAX_PATH leaf.now }
     ensures { IfOk result (λ h. home_of_key h ≡ home_of model.now.tree.nodes model.now.tree.root
         leaf.now.path cell) }
 {

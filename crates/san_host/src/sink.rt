@@ -14,6 +14,7 @@ pub struct StdSink<W: io::Write + Drop> {
 }
 
 impl<W: io::Write + Drop> StdSink<W> {
+    /// Over this writer; no write has failed.
     pub fn new(inner: W) -> StdSink<W> {
         StdSink { inner, faults: 0 }
     }

@@ -13,6 +13,7 @@ pub struct StdSource<R: io::Read + Drop> {
 }
 
 impl<R: io::Read + Drop> StdSource<R> {
+    /// Over this reader; no read has failed.
     pub fn new(inner: R) -> StdSource<R> {
         StdSource { inner, faults: 0 }
     }

@@ -98,7 +98,7 @@ fn digit(b: u8) -> u8
 }
 
 /// The greatest number that a text can have.
-pub(crate) const MAX_NUMBER: u64 = 9_223_372_036_854_775_807;
+pub const MAX_NUMBER: u64 = 9_223_372_036_854_775_807;
 
 /// The value of digits, where it is not above the greatest number.
 #[tactic(auto, using(crate::proofs::RunLemmas::each_at, crate::proofs::RunLemmas::value_more, crate::proofs::RunLemmas::value_grows))]

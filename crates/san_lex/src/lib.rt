@@ -9,6 +9,7 @@ mod piece;
 mod sign;
 mod token;
 
+pub use byte::MAX_NUMBER;
 pub use laws::{read_words_can_be_written, written_words_are_read};
 pub use lexer::tokens;
 pub use san_base::Op;

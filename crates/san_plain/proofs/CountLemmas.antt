@@ -8,18 +8,13 @@ use Rattle.san_law.specs.Network.{Limits}
 use Rattle.san_law.specs.Reward.{rates_from, zero_sum}
 use Rattle.san_law.specs.Standing.{Counts}
 use Rattle.san_law.specs.State.{State, opening_state}
-use Rattle.san_law.specs.Step.{Event, Happened, step}
+use Rattle.san_law.specs.Step.{Event}
 use Rattle.san_law.specs.Tally.{tally_after}
 use Rattle.san_law.specs.Trajectory.{Runs}
 use Rattle.san_net.specs.Network.{Network, net_of, span_in}
 use Rattle.san_reward.specs.Running.{IsOf, Running, advanced, opened, with_all_rates, with_impulses}
 use Rattle.san_reward.proofs.Impulses.{event_same, impulses_told}
 use Rattle.san_reward.proofs.Telling.{advance_same, opened_of}
-
--- a run with one more event
-pub runs_on : (net : Net) (es : List Event) (s t : State) (e : Event) → Runs net s es t → (step net t).0 ≡ Happened e → Runs net s (es ++ e ∷ []) (step net t).1
-runs_on net [] s t e runs is = (ap (λ (x : State). (step net x).0) runs ∙ is, ap (λ (x : State). (step net x).1) runs)
-runs_on net (f ∷ es) s t e runs is = (runs.0, runs_on net es (step net s).1 t e runs.1 is)
 
 -- a tally after an event, and what else is of the network still
 pub record CountsOn (net : Net) (opening : State) (es : List Event) (e : Event) (rates : List (List Rated)) (u : Running) : Type 0 where

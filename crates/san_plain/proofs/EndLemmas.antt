@@ -18,14 +18,15 @@ use Rattle.san_net.proofs.LaidLemmas.{lawful}
 use Rattle.san_report.specs.Lines.{ending_line}
 use Rattle.san_report.specs.Puts.{EndsIn}
 use Rattle.san_reward.specs.Running.{net_in}
+use Rattle.san_reward.specs.Worth.{worth_of}
 use Rattle.san_reward.specs.declared.worth.Worth.{Worth}
 use Rattle.san_reward.proofs.RatesSet.{rates_law}
 use Rattle.san_reward.proofs.Telling.{worth_same}
-use Rattle.san_plain.specs.Closings.{closing, worths_by}
-use Rattle.san_plain.specs.Courses.{IsOver, Stands, left_after}
-use Rattle.san_plain.specs.Pages.{Sent}
-use Rattle.san_plain.specs.Reports.{Opened, net_by, report_of, worth_at, worth_said}
-use Rattle.san_plain.specs.declared.run.Course.{Course}
+use Rattle.san_report.specs.Closings.{closing, worths_by}
+use Rattle.san_plain.specs.inner.Progress.{IsOver, Stands, left_after}
+use Rattle.san_report.specs.Pages.{Sent}
+use Rattle.san_plain.specs.Reports.{Opened, net_by, report_of, worth_at}
+use Rattle.san_plain.specs.declared.run.RunInProgress.{RunInProgress}
 use Rattle.san_plain.proofs.NumberLemmas.{act_below}
 use Rattle.san_plain.proofs.ReportLemmas.{lines_last, outcome_is, rewards_like}
 use Rattle.san_plain.proofs.StepLemmas.{IsEnd, ends, fits_at}
@@ -58,7 +59,7 @@ over_by : (n : Network) (x : law.Stepped) (e : Ending) → told_of n x ≡ Err e
 over_by n (law.Happened f) e told = absurd cc
 over_by n (law.Over time why) e told = (time, why, refl, same_ending (ending_in n time why) e told)
 
-module _ (o : Opened) (es : List law.Event) (s : State) (c : Course) (st : Stands o es s c) where
+module _ (o : Opened) (es : List law.Event) (s : State) (c : RunInProgress) (st : Stands o es s c) where
   abbrev net : Net
   net = net_by o
 
@@ -79,8 +80,8 @@ module _ (o : Opened) (es : List law.Event) (s : State) (c : Course) (st : Stand
       sym (worth_same net a.running st.counted.is_of r)
       ∙ counted_worth net (opening_state net) s es a.running.time a.running.tally st.runs st.counted.counts (st.counted.rates ∙ rates_law s.marking o.network (draw_of o.seed) (limits_in o.limits)) r inside
 
-  worths_are : (time : ℕ) (why : law.Ending) (r : ℕ) → r < length o.network.rewards → worth_at net es why r ≡ worths_by c.account (ending_in o.network time why) r
-  worths_are time law.End r h = ap (λ (w : reward.Worth). (let x : Option Worth = Some (worth_said w) in x)) (sym (worth_by r h))
+  worths_are : (time : ℕ) (why : law.Ending) (r : ℕ) → r < length o.network.rewards → worth_at net es why r ≡ worths_by c.account.running (ending_in o.network time why) r
+  worths_are time law.End r h = ap (λ (w : reward.Worth). (let x : Option Worth = Some (worth_of w) in x)) (sym (worth_by r h))
   worths_are time law.Unstable r h = refl
   worths_are time law.Events r h = refl
   worths_are time (law.Trapped j k trap) r h = refl
@@ -91,13 +92,13 @@ module _ (o : Opened) (es : List law.Event) (s : State) (c : Course) (st : Stand
   ends_in time law.Events is = tt
   ends_in time (law.Trapped j k trap) is = act_below o.network st.known j k is
 
-  closing_is : (time : ℕ) (why : law.Ending) → (law.step net s).0 ≡ law.Over time why → left_after o es (trajectory net s) ≡ closing c.flat.now c.account c.count (ending_in o.network time why)
+  closing_is : (time : ℕ) (why : law.Ending) → (law.step net s).0 ≡ law.Over time why → left_after o es (trajectory net s) ≡ closing c.flat.now c.account.running c.count (ending_in o.network time why)
   closing_is time why over =
       let n = o.network in
       let e = ending_in n time why in
       lines_last o es s time why over
-      ∙ (ap (λ (xs : List ℕ). ending_line n (length es) e ++ xs) (rewards_like n.rewards 0 (worth_at net es why) (worths_by c.account e) (λ q l h. worths_are time why q (omega (arith, h))))
-      ∙ (ap (λ (k : ℕ). closing n c.account k e) (sym st.many) ∙ ap (λ (m : Network). closing m c.account c.count e) (sym st.of_network)))
+      ∙ (ap (λ (xs : List ℕ). ending_line n (length es) e ++ xs) (rewards_like n.rewards 0 (worth_at net es why) (worths_by c.account.running e) (λ q l h. worths_are time why q (omega (arith, h))))
+      ∙ (ap (λ (k : ℕ). closing n c.account.running k e) (sym st.many) ∙ ap (λ (m : Network). closing m c.account.running c.count e) (sym st.of_network)))
 
   over : (first now : Option (List ℕ)) (time : ℕ) (why : law.Ending) → (law.step net s).0 ≡ law.Over time why → Sent first now c.pages (report_of o) (left_after o es (trajectory net s)) → IsOver o first now c (ending_in o.network time why)
   over first now time why is sent = record {

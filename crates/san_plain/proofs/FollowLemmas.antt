@@ -10,7 +10,7 @@ use Rattle.san_net.specs.Network.{Network}
 use Rattle.san_net.specs.declared.part.Part.{Part}
 use Rattle.san_reward.specs.Running.{Running, rates_in, rates_of, with_all_rates}
 use Rattle.san_reward.proofs.RatesSet.{rates_there}
-use Rattle.san_plain.specs.Following.{AreNew, DiffersIn, Follows, FollowsPlaces, differs_at, rates_at}
+use Rattle.san_plain.specs.inner.Rates.{AreNew, DiffersIn, Follows, FollowsPlaces, differs_at, rates_at}
 use Rattle.san_plain.proofs.RateLemmas.{new_stays, part_at, same_of}
 use Rattle.san_net.proofs.CellLemmas.{CaughtUp, gather_eq}
 

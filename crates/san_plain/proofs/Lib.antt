@@ -1,5 +1,3 @@
-pub mod PageLemmas
-pub mod SpanLemmas
 pub mod WorthLemmas
 pub mod StepLemmas
 pub mod NumberLemmas
@@ -7,7 +5,6 @@ pub mod CountLemmas
 pub mod ReportLemmas
 pub mod TurnLemmas
 pub mod EndLemmas
-pub mod ClosingLemmas
 pub mod OpenedLemmas
 pub mod RateLemmas
 pub mod FollowLemmas

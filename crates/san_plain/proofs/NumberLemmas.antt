@@ -18,7 +18,7 @@ use Rattle.san_net.specs.declared.atomic.ImpulseTerm.{ImpulseTerm}
 use Rattle.san_net.specs.declared.part.Part.{Part}
 use Rattle.san_net.proofs.TableLemmas.{got_at}
 use Rattle.san_report.specs.Lines.{leaf_of}
-use Rattle.san_plain.specs.Accounts.{Reaches, impulses_by, impulses_of}
+use Rattle.san_plain.specs.inner.Accounts.{Reaches, impulses_by, impulses_of}
 use Rattle.san_seq.specs.Reaching.{impulses_at}
 use Rattle.san_net.specs.Tables.{IsActOf, act_of, first_of}
 use Rattle.san_seq.proofs.NextLemmas.{cut}

@@ -6,11 +6,11 @@ use Rattle.san_law.specs.State.{State, opening_state}
 use Rattle.san_law.specs.Trajectory.{trajectory}
 use Rattle.san_net.specs.Laid.{IsNetwork}
 use Rattle.san_reward.specs.Running.{rates_in}
-use Rattle.san_plain.specs.Accounts.{Account, opened_account}
-use Rattle.san_plain.specs.Courses.{HasCounted, IsOpened, IsUnderWay, Stands, left_after, opened_by}
-use Rattle.san_plain.specs.Pages.{Sent}
+use Rattle.san_plain.specs.inner.Accounts.{RewardAccount, opened_account}
+use Rattle.san_plain.specs.inner.Progress.{HasCounted, IsOpened, IsUnderWay, Stands, left_after, opened_by}
+use Rattle.san_report.specs.Pages.{Sent}
 use Rattle.san_plain.specs.Reports.{Opened, net_by, report_of}
-use Rattle.san_plain.specs.declared.run.Course.{Course}
+use Rattle.san_plain.specs.declared.run.RunInProgress.{RunInProgress}
 use Rattle.san_plain.proofs.CountLemmas.{opened_counts, opened_is}
 use Rattle.san_plain.proofs.ReportLemmas.{whole_left}
 use Rattle.san_seq.specs.Overs.{limits_in}
@@ -19,7 +19,7 @@ module _ (o : Opened) where
   abbrev start : State
   start = opening_state (net_by o)
 
-  abbrev none_counted : Account
+  abbrev none_counted : RewardAccount
   none_counted = opened_account o.network o.limits.horizon.0
 
   opened_counted : HasCounted o [] start none_counted
@@ -35,7 +35,7 @@ module _ (o : Opened) where
   sent_none : (first : Option (List ℕ)) → Sent first first [] (report_of o) (left_after o [] (trajectory (net_by o) start))
   sent_none first = ([], appends_nothing first, whole_left o)
 
-module _ (c : Course) (known : IsNetwork c.flat.now) (is : IsOpened c) where
+module _ (c : RunInProgress) (known : IsNetwork c.flat.now) (is : IsOpened c) where
   stands : Stands (opened_by c) [] (start (opened_by c)) c
   stands = record {
     known = known;

@@ -17,7 +17,7 @@ use Rattle.san_net.specs.declared.part.Slot.TheVariants.{Private}
 use Rattle.san_reward.specs.Running.{Running, rates_in, rates_of, terms_in, with_all_rates, with_leaf_rates}
 use Rattle.san_reward.proofs.RatesSet.{rates_there}
 use Rattle.san_reward.proofs.Setting.{leaves_long, rates_long}
-use Rattle.san_plain.specs.Following.{AreNew, Follows, FollowsAt, FollowsPlace, FollowsPlaces, rates_at}
+use Rattle.san_plain.specs.inner.Rates.{AreNew, Follows, FollowsAt, FollowsPlace, FollowsPlaces, rates_at}
 use Rattle.san_seq.proofs.TouchLemmas.{imported, taken_more}
 
 pub same_of : {X : Type 0} (o : Option X) (x y : X) → o ≡ Some x → o ≡ Some y → x ≡ y

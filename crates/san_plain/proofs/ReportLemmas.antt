@@ -8,10 +8,10 @@ use Rattle.san_law.specs.State.{State, opening_state}
 use Rattle.san_law.specs.Step as law
 use Rattle.san_law.specs.Trajectory.{Runs, Trajectory, ran_by, ran_on, run, trajectory}
 use Rattle.san_net.specs.declared.part.Reward.{Reward}
-use Rattle.san_report.specs.Lines.{ending_line, event_line, reward_line}
+use Rattle.san_report.specs.Lines.{ending_line, event_line, reward_line, reward_lines}
 use Rattle.san_reward.specs.declared.worth.Worth.{Worth}
-use Rattle.san_plain.specs.Courses.{left_after}
-use Rattle.san_plain.specs.Reports.{Opened, ending_of, event_lines, net_by, report_by, report_of, reward_lines, worth_at}
+use Rattle.san_plain.specs.inner.Progress.{left_after}
+use Rattle.san_plain.specs.Reports.{Opened, ending_of, event_lines, net_by, report_by, report_of, worth_at}
 use Rattle.san_seq.specs.Telling.{ending_in, event_in}
 
 -- a step with an event, and the rest of the run

@@ -3,6 +3,7 @@ use Rattle.std.proofs.Common.{ℕ, ◌+◌, ◌^◌, ◌≤◌, ◌<◌, ◌≡�
 use Rattle.san_base.specs.declared.ending.Ending.{Ending}
 use Rattle.san_base.specs.declared.ending.Event.{Event}
 use Rattle.san_draw.specs.Key.{draw_of}
+use Rattle.san_law.proofs.Orders.{runs_append}
 use Rattle.san_law.proofs.Steps.{counted, runs_within}
 use Rattle.san_law.specs.Lawful.{IsLawful}
 use Rattle.san_law.specs.Net.{Net}
@@ -15,13 +16,13 @@ use Rattle.san_net.proofs.LaidLemmas.{lawful}
 use Rattle.san_report.specs.Lines.{event_line}
 use Rattle.san_reward.specs.Running.{rates_in, with_all_rates, with_impulses, advanced}
 use Rattle.san_reward.proofs.RatesSet.{rates_law}
-use Rattle.san_plain.specs.Accounts.{Account, Reaches, impulses_of, with_event}
+use Rattle.san_plain.specs.inner.Accounts.{RewardAccount, Reaches, impulses_of, with_event}
 use Rattle.san_law.specs.Trajectory.{trajectory}
-use Rattle.san_plain.specs.Courses.{HasCounted, Stands, left_after, run_at}
-use Rattle.san_plain.specs.Pages.{Sent}
+use Rattle.san_plain.specs.inner.Progress.{HasCounted, Stands, left_after, run_at}
+use Rattle.san_report.specs.Pages.{Sent}
 use Rattle.san_plain.specs.Reports.{Opened, net_by, report_of}
-use Rattle.san_plain.specs.declared.run.Course.{Course}
-use Rattle.san_plain.proofs.CountLemmas.{counts_on, runs_on}
+use Rattle.san_plain.specs.declared.run.RunInProgress.{RunInProgress}
+use Rattle.san_plain.proofs.CountLemmas.{counts_on}
 use Rattle.san_plain.proofs.NumberLemmas.{act_below, impulses_same, reaches}
 use Rattle.san_plain.proofs.ReportLemmas.{line_first}
 use Rattle.san_plain.proofs.StepLemmas.{Completion, completes, fits_at}
@@ -43,7 +44,7 @@ event_told (Ok f) e is = ap (λ (y : Event). (let r : Result Event Ending = Ok y
 event_told (Err (ending.End h)) e is = absurd cc
 event_told (Err (ending.Stop why)) e is = absurd cc
 
-module _ (o : Opened) (es : List law.Event) (s : State) (c : Course) (st : Stands o es s c) (event : Event) (said : stepped.Event event ≡ stepped_of (step_of c.seq).0) where
+module _ (o : Opened) (es : List law.Event) (s : State) (c : RunInProgress) (st : Stands o es s c) (event : Event) (said : stepped.Event event ≡ stepped_of (step_of c.seq).0) where
   abbrev net : Net
   net = net_by o
 
@@ -134,29 +135,29 @@ module _ (o : Opened) (es : List law.Event) (s : State) (c : Course) (st : Stand
         (subst (λ (xs : List ℕ). Reaches o.network (act_of o.network happened.leaf happened.act).0 s.marking xs) back
         (reaches o.network st.known happened.leaf happened.act done.act (draw_of o.seed) (limits_in o.limits) done.values s.marking))))
 
-    counted_on : (a : Account) → a ≡ with_event c.account event m → HasCounted o (es ++ happened ∷ []) reached a
+    counted_on : (a : RewardAccount) → a ≡ with_event c.account event m → HasCounted o (es ++ happened ∷ []) reached a
     counted_on a is =
         let was = c.account in
         let present : was.running.tally.rates ≡ rates_from net 0 net.parts s.marking = st.counted.rates ∙ rates_law s.marking o.network (draw_of o.seed) (limits_in o.limits) in
         let running : a.running ≡ with_impulses (with_all_rates (advanced was.running happened.time) (rates_in was.network m)) (impulses_of was.network event.act.0 m) =
-        ap (λ (x : Account). x.running) is ∙ ap (λ (t : ℕ). with_impulses (with_all_rates (advanced was.running t) (rates_in was.network m)) (impulses_of was.network event.act.0 m)) (sym time_is) in
+        ap (λ (x : RewardAccount). x.running) is ∙ ap (λ (t : ℕ). with_impulses (with_all_rates (advanced was.running t) (rates_in was.network m)) (impulses_of was.network event.act.0 m)) (sym time_is) in
         let on = counts_on net (opening_state net) s es happened was.running (rates_in was.network m) st.counted.is_of st.runs st.counted.counts present (omega (arith, st.counted.early, in_time.later)) in_time.within ((counted net s happened happens).few is_lawful) a.running (impulses_of was.network event.act.0 m) impulses_are running in
         record {
-          of_network = ap (λ (x : Account). x.network) is ∙ st.counted.of_network;
-          at_marking = ap (λ (x : Account). x.marking) is ∙ marking_is;
+          of_network = ap (λ (x : RewardAccount). x.network) is ∙ st.counted.of_network;
+          at_marking = ap (λ (x : RewardAccount). x.marking) is ∙ marking_is;
           is_of = on.is_of;
           rates = on.set ∙ (ap (λ (n : Network). rates_in n m) st.counted.of_network ∙ ap (rates_in o.network) marking_is);
           counts = on.counts;
           early = omega (arith, on.now, in_time.present);
         }
 
-    pub stands_on : (d : Course) → d.flat.now ≡ c.flat.now → d.limits ≡ c.limits → d.seq ≡ new → d.account ≡ with_event c.account event m → d.count ≡ c.count + 1 → Stands o (es ++ happened ∷ []) reached d
+    pub stands_on : (d : RunInProgress) → d.flat.now ≡ c.flat.now → d.limits ≡ c.limits → d.seq ≡ new → d.account ≡ with_event c.account event m → d.count ≡ c.count + 1 → Stands o (es ++ happened ∷ []) reached d
     stands_on d flat limits seq account count = record {
       known = st.known;
       range = st.range;
       of_network = flat ∙ st.of_network;
       in_limits = limits ∙ st.in_limits;
-      runs = runs_on net es (opening_state net) s happened st.runs happens;
+      runs = runs_append net (opening_state net) s reached es (happened ∷ []) st.runs (happens, refl);
       at_state = seq ∙ (left ∙ (ap after_step st.at_state ∙ ap (λ g. record { network = o.network; seed = o.seed; limits = o.limits; going = g }) is_the_laws.left));
       counted = counted_on d.account account;
       many = omega (arith, count, st.many, length-append es (happened ∷ []));

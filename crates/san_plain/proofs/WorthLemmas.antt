@@ -9,7 +9,7 @@ use Rattle.san_law.specs.Reward.{Beyond, events_sum, marked_sum, plus, rates_fro
 use Rattle.san_law.specs.Tally.{Tally, going_on, sum_of, tally_worth}
 use Rattle.san_law.specs.Standing.{Counts}
 use Rattle.san_law.proofs.Tallies.{marked_end, plus_four, plus_last, sum_like, sum_split}
-use Rattle.san_plain.proofs.SpanLemmas.{span_sum}
+use Rattle.san_law.proofs.Spans.{span_sum}
 
 plus_swap : (a b c : Rated) → plus (plus a b) c ≡ plus (plus a c) b
 plus_swap a b c = sym (plus_last (plus (plus a b) c)) ∙ (plus_four a b c zero_sum ∙ ap (plus (plus a c)) (plus_last b))

@@ -1,6 +1,2 @@
-pub mod Accounts
-pub mod Pages
 pub mod Reports
-pub mod Closings
-pub mod Courses
-pub mod Following
+pub mod inner

@@ -6,15 +6,14 @@ use Rattle.san_base.specs.declared.ending.Ending.{Ending}
 use Rattle.san_base.specs.declared.limits.Limits.{Limits}
 use Rattle.san_draw.specs.Key.{draw_of}
 use Rattle.san_law.specs.Net.{Net}
-use Rattle.san_law.specs.Reward as reward
+use Rattle.san_law.specs.Reward.{worth}
 use Rattle.san_law.specs.State.{opening_state}
 use Rattle.san_law.specs.Step as law
 use Rattle.san_law.specs.Trajectory.{Trajectory, trajectory}
 use Rattle.san_net.specs.Network.{Network, net_of}
-use Rattle.san_net.specs.declared.part.Reward.{Reward}
-use Rattle.san_report.specs.Lines.{ending_line, event_line, reward_line}
+use Rattle.san_report.specs.Lines.{ending_line, event_line, reward_lines}
+use Rattle.san_reward.specs.Worth.{worth_of}
 use Rattle.san_reward.specs.declared.worth.Worth.{Worth}
-use Rattle.san_reward.specs.declared.worth.Worth.TheVariants.{Sum, Mean, Fault, Beyond}
 use Rattle.san_plain.specs.declared.run.Unwritten.{Unwritten}
 use Rattle.san_seq.specs.Overs.{limits_in}
 use Rattle.san_seq.specs.Telling.{ending_in, event_in}
@@ -33,21 +32,10 @@ abbrev pub event_lines : Network → ℕ → List law.Event → List ℕ
 event_lines n k [] = []
 event_lines n k (e ∷ es) = event_line n k (event_in n e) ++ event_lines n (suc k) es
 
-abbrev pub worth_said : reward.Worth → Worth
-worth_said (reward.Sum sum) = Sum sum
-worth_said (reward.Mean sum ticks) = Mean sum ticks
-worth_said reward.Faulted = Fault
-worth_said reward.Beyond = Beyond
-
 -- a run that stopped has no worths
 abbrev pub worth_at : Net → List law.Event → law.Ending → ℕ → Option Worth
-worth_at net es law.End r = Some (worth_said (reward.worth net r (opening_state net) es))
+worth_at net es law.End r = Some (worth_of (worth net r (opening_state net) es))
 worth_at net es e r = None
-
--- the rewards' lines, numbered from one on
-abbrev pub reward_lines : List Reward → ℕ → (ℕ → Option Worth) → List ℕ
-reward_lines [] r worth = []
-reward_lines (x ∷ xs) r worth = reward_line x.name (worth r) ++ reward_lines xs (suc r) worth
 
 abbrev pub report_by : Network → Net → Option Trajectory → List ℕ
 report_by n net None = []

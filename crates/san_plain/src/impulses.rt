@@ -1,4 +1,7 @@
+//! The impulses of an event.
+
 ghost use Rattle.std.specs.Prelude.{◌≡◌, ◌+◌, ◌<◌, ◌≤◌, ◌∷◌, ◌^◌, [], All, IsTrue, Some, length, map, slice_get};
+ghost use Rattle.san_base.specs.declared.limits.TheConstants.{MAX_IMPULSES};
 ghost use Rattle.san_expr.specs.Below.{places_below};
 ghost use Rattle.san_law.specs.Lawful.{AllBelow};
 ghost use Rattle.san_law.specs.State.{gather};
@@ -7,7 +10,7 @@ ghost use Rattle.san_net.specs.Leaf.{impulses_in};
 ghost use Rattle.san_net.specs.Network.{span_in};
 ghost use Rattle.san_net.specs.declared.part.Part.{Part};
 ghost use Rattle.san_reward.specs.Running.{with_impulses};
-ghost use Rattle.san_plain.specs.Accounts.{impulses_by};
+ghost use Rattle.san_plain.specs.inner.Accounts.{impulses_by};
 
 use crate::cells::impulse_in;
 use san_base::{ActId, LeafId};
@@ -20,7 +23,7 @@ fn count_term(tally: &mut Tally, term: &ImpulseTerm, act: u32, slots: &[Slot], m
     requires places { IsTrue (places_below term.now.expr (length slots.now)) }
     requires over { AllBelow (map place_of slots.now) (length marking.now) }
     requires few { tally.old.tally.impulses + length (impulses_in (term.now ∷ []) act
-        (gather (map place_of slots.now) marking.now)) ≤ 2 ^ 40 }
+        (gather (map place_of slots.now) marking.now)) ≤ MAX_IMPULSES }
     ensures { tally.new ≡ with_impulses tally.old (impulses_in (term.now ∷ []) act
         (gather (map place_of slots.now) marking.now)) }
 {
@@ -37,7 +40,7 @@ fn count_part(tally: &mut Tally, part: &Part, act: u32, marking: &[u32])
         part.now.atomic.impulses }
     requires over { AllBelow (places_of part.now) (length marking.now) }
     requires few { tally.old.tally.impulses + length (impulses_in part.now.atomic.impulses act
-        (gather (places_of part.now) marking.now)) ≤ 2 ^ 40 }
+        (gather (places_of part.now) marking.now)) ≤ MAX_IMPULSES }
     ensures { tally.new ≡ with_impulses tally.old (impulses_in part.now.atomic.impulses act
         (gather (places_of part.now) marking.now)) }
 {
@@ -60,7 +63,7 @@ pub(crate) fn count_impulses(
     requires act { (p : Part) → slice_get flat.now.parts leaf.0 ≡ Some p → p.first.0 ≤ act.0 }
     requires marking { length marking.now ≡ length flat.now.initial }
     requires few { tally.old.tally.impulses
-        + length (impulses_by (slice_get flat.now.parts leaf.0) act.0 marking.now) ≤ 2 ^ 40 }
+        + length (impulses_by (slice_get flat.now.parts leaf.0) act.0 marking.now) ≤ MAX_IMPULSES }
     ensures { tally.new ≡ with_impulses tally.old
         (impulses_by (slice_get flat.now.parts leaf.0) act.0 marking.now) }
 {

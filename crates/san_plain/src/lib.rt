@@ -4,11 +4,8 @@
 
 mod account;
 mod cells;
-mod closing;
-mod following;
 mod impulses;
-mod pages;
-mod rating;
+mod rates;
 mod run;
 
 pub use run::{Run, Unwritten};

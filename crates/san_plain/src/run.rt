@@ -1,15 +1,16 @@
+//! The run of a network, told as its report.
+
 ghost use Rattle.std.specs.Prelude.{◌≡◌, ◌≤◌, List, ℕ, Option, IfOk, IfErr, length};
 ghost use Rattle.san_base.specs.Flow.{Rose};
 ghost use Rattle.san_base.specs.Limits.{IsInRange};
 ghost use Rattle.san_report.specs.Puts.{EndsIn};
-ghost use Rattle.san_plain.specs.Courses.{IsOver, IsStanding, IsUnderWay, TurnedTo};
+ghost use Rattle.san_plain.specs.inner.Progress.{IsOver, IsStanding, IsUnderWay, TurnedTo};
 ghost use Rattle.san_plain.specs.Reports.{Opened, Reports};
 
-use crate::account::Account;
-use crate::closing::close;
-use crate::pages::{Line, Pages};
+use crate::account::RewardAccount;
 use san_base::{Ending, Limits, NoMemory, Sink};
 use san_net::Flat;
+use san_report::{Line, Pages, close};
 use san_seq::{Seq, Stepped};
 use std::alloc::Global;
 use std::marker::Model;
@@ -20,24 +21,24 @@ pub struct Unwritten;
 
 /// A run under way, with what is kept between its events.
 #[derive(Drop)]
-struct Course<'a> {
+struct RunInProgress<'a> {
     flat: &'a Flat,
     limits: Limits,
     seq: Seq<'a>,
-    account: Account<'a>,
+    account: RewardAccount<'a>,
     pages: Pages,
-    /// How many events there were.
+    /// The number of events so far.
     count: u64,
 }
 
 /// A run that has not begun, with all the memory that it takes.
 #[derive(Drop)]
 pub struct Run<'a> {
-    course: Course<'a>,
+    run: RunInProgress<'a>,
 }
 
 impl<'a> Model for Run<'a> {
-    ghost use Rattle.san_plain.specs.Courses.{IsOpened, opened_by};
+    ghost use Rattle.san_plain.specs.inner.Progress.{IsOpened, opened_by};
     ghost use Rattle.san_plain.specs.Reports.{Opened};
     ghost use Rattle.san_net.specs.contracts.part.Part as of_part;
     ghost use Rattle.std.specs.Coded.{codes};
@@ -46,59 +47,52 @@ impl<'a> Model for Run<'a> {
 
     ghost coded = { Prim.hlevel (codes, of_part.the_row.coded) };
 
-    ghost view = { λ r. opened_by r.course };
+    ghost view = { λ r. opened_by r.run };
 
-    ghost invariant = { λ r. IsOpened r.course };
+    ghost invariant = { λ r. IsOpened r.run };
 }
 
-/// Takes a step. Of an event the account is told, and its line is put; an ending is answered.
-fn turn<K: Sink>(course: &mut Course<'_>, sink: &mut K) -> Result<Option<Ending>, Unwritten>
-    requires { IsStanding course.old }
+/// Takes a step. An event is counted, and its line is put; an ending is answered.
+fn turn<K: Sink>(run: &mut RunInProgress<'_>, sink: &mut K) -> Result<Option<Ending>, Unwritten>
+    requires { IsStanding run.old }
     ensures report { (o : Opened) (first : Option (List ℕ))
-        → IsUnderWay o first (K.held sink.old) course.old
-        → TurnedTo o first result (K.held sink.new) course.old course.new }
+        → IsUnderWay o first (K.held sink.old) run.old
+        → TurnedTo o first result (K.held sink.new) run.old run.new }
     ensures cause { IfErr result (λ e. Rose (K.faults sink.old) (K.faults sink.new)) }
     ensures later { K.faults sink.old ≤ K.faults sink.new }
 {
-    match course.seq.step() {
+    match run.seq.step() {
         Stepped::Event(event) => {
-            course.account.tell(event, course.seq.marking());
-            let line = Line::Event(course.count, event);
-            course.count += 1;
-            if course.pages.put(sink, course.flat, line) {
+            run.account.count(event, run.seq.marking());
+            let line = Line::Event(run.count, event);
+            run.count += 1;
+            if run.pages.put(sink, run.flat, line) {
                 Ok(None)
             } else {
                 Err(Unwritten)
             }
         }
-        Stepped::End => Ok(Some(Ending::End(course.limits.horizon))),
+        Stepped::End => Ok(Some(Ending::End(run.limits.horizon))),
         Stepped::Stopped(stop) => Ok(Some(Ending::Stop(stop))),
     }
 }
 
 /// Puts what is left of the report of a run that has ended.
 fn finish<K: Sink>(
-    course: &mut Course<'_>,
+    run: &mut RunInProgress<'_>,
     sink: &mut K,
     ending: Ending,
 ) -> Result<Ending, Unwritten>
-    requires within { EndsIn course.old.flat.now ending }
-    requires spans { length course.old.account.running.spans ≡ length course.old.flat.now.rewards }
+    requires within { EndsIn run.old.flat.now ending }
+    requires spans { length run.old.account.running.spans ≡ length run.old.flat.now.rewards }
     ensures report { (o : Opened) (first : Option (List ℕ))
-        → IsOver o first (K.held sink.old) course.old ending
+        → IsOver o first (K.held sink.old) run.old ending
         → Reports result o first (K.held sink.new) }
     ensures cause { IfErr result (λ e. Rose (K.faults sink.old) (K.faults sink.new)) }
     ensures later { K.faults sink.old ≤ K.faults sink.new }
 {
-    let pages = &mut course.pages;
-    if close(
-        sink,
-        pages,
-        course.flat,
-        &course.account,
-        course.count,
-        ending,
-    ) {
+    let (flat, tally) = (run.flat, run.account.tally());
+    if close(sink, &mut run.pages, flat, tally, run.count, ending) {
         Ok(ending)
     } else {
         Err(Unwritten)
@@ -117,10 +111,10 @@ impl<'a> Run<'a> {
         ensures { IfOk result (λ r. r ≡ record { network = flat.now; seed = seed; limits = limits }) }
     {
         let seq = Seq::open(alloc, flat, seed, limits)?;
-        let account = Account::open(alloc, flat, limits.horizon)?;
+        let account = RewardAccount::open(alloc, flat, limits.horizon)?;
         let pages = Pages::open(alloc)?;
         Ok(Run {
-            course: Course {
+            run: RunInProgress {
                 flat,
                 limits,
                 seq,
@@ -138,12 +132,12 @@ impl<'a> Run<'a> {
         ensures cause { IfErr result (λ e. Rose (K.faults sink.old) (K.faults sink.new)) }
         ensures later { K.faults sink.old ≤ K.faults sink.new }
     {
-        let mut course = self.course;
-        course.flat.is_network();
+        let mut run = self.run;
+        run.flat.is_network();
         'turns: loop {
-            match turn(&mut course, sink) {
+            match turn(&mut run, sink) {
                 Ok(None) => {}
-                Ok(Some(ending)) => return finish(&mut course, sink, ending),
+                Ok(Some(ending)) => return finish(&mut run, sink, ending),
                 Err(unwritten) => return Err(unwritten),
             }
         }

@@ -11,12 +11,13 @@ use Rattle.san_law.specs.State.{opening_state}
 use Rattle.san_net.specs.Laid.{IsNetwork}
 use Rattle.san_net.specs.Network.{Network}
 use Rattle.san_net.specs.Tables.{importers_of}
-use Rattle.san_probe.specs.Courses.{Stands, Watches, net_by}
+use Rattle.san_probe.specs.inner.Progress.{Stands, Watches, net_by}
 use Rattle.san_probe.specs.Markings.{IsMarkingOf}
-use Rattle.san_probe.specs.Watching.{sum_values, ticks_before, value_at, watched_by, watched_of}
-use Rattle.san_probe.specs.declared.watching.Watched.{Watched}
-use Rattle.san_probe.specs.declared.watching.Watched.TheVariants.{Beyond, Stopped, Sum}
-use Rattle.san_probe.proofs.CourseLemmas.{comes_to, end_told, event_told, later, stands_first, stands_on, stop_told, sum_whole, watches_on}
+use Rattle.san_probe.specs.Watching.{sum_values, value_at, watched_by, watched_of}
+use Rattle.san_probe.specs.inner.Progress.{ticks_before}
+use Rattle.san_probe.specs.declared.measured.Watched.{Watched}
+use Rattle.san_probe.specs.declared.measured.Watched.TheVariants.{Beyond, Stopped, Sum}
+use Rattle.san_probe.proofs.ProgressLemmas.{comes_to, end_told, event_told, later, stands_first, stands_on, stop_told, sum_whole, watches_on}
 use Rattle.san_probe.proofs.WatchLemmas.{before_grows}
 use Rattle.san_seq.specs.FlatRun.{Run, after_step, marking_of, opening, step_of}
 use Rattle.san_seq.specs.Telling.{stepped_of}

@@ -11,8 +11,9 @@ use Rattle.san_law.specs.Reward.{marked}
 use Rattle.san_law.specs.Standing.{AllTo}
 use Rattle.san_law.specs.Trajectory.{Runs}
 use Rattle.san_law.proofs.Tallies.{AllAt, marked_end}
-use Rattle.san_probe.specs.Courses.{sum_until}
-use Rattle.san_probe.specs.Watching.{sum_values, ticks_before, value_at}
+use Rattle.san_probe.specs.inner.Progress.{sum_until}
+use Rattle.san_probe.specs.Watching.{sum_values, value_at}
+use Rattle.san_probe.specs.inner.Progress.{ticks_before}
 
 times_none : (v : ℤ) → pos 0 ≡ v *ℤ pos 0
 times_none v = omega (arith, ints)

@@ -1,3 +1,3 @@
 pub mod Markings
 pub mod Watching
-pub mod Courses
+pub mod inner

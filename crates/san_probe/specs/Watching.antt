@@ -11,8 +11,8 @@ use Rattle.san_law.specs.State.{opening_state}
 use Rattle.san_law.specs.Step as law
 use Rattle.san_law.specs.Trajectory.{Trajectory, trajectory}
 use Rattle.san_net.specs.Network.{Network, net_of}
-use Rattle.san_probe.specs.declared.watching.Watched.{Watched}
-use Rattle.san_probe.specs.declared.watching.Watched.TheVariants.{Beyond, Stopped, Sum}
+use Rattle.san_probe.specs.declared.measured.Watched.{Watched}
+use Rattle.san_probe.specs.declared.measured.Watched.TheVariants.{Beyond, Stopped, Sum}
 use Rattle.san_seq.specs.Overs.{limits_in}
 use Rattle.san_seq.specs.Telling.{ending_in}
 
@@ -24,10 +24,6 @@ sum_values f a (suc n) = f a +ℤ sum_values f (suc a) n
 -- a measure in the marking at the end of a tick of a run
 abbrev pub value_at : (List ℕ → ℤ) → Net → List law.Event → ℕ → ℤ
 value_at measure net es t = measure (marked net (opening_state net) es t)
-
--- of the ticks from one to before another, how many are before a time
-abbrev pub ticks_before : ℕ → ℕ → ℕ → ℕ
-ticks_before from to time = (if nat_lt time to then time else to) - from
 
 -- a run that stopped has no sum, nor has an interval that passes the horizon
 abbrev pub watched_by : ℤ → ℕ → ℕ → Ending → Watched

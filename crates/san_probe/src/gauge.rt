@@ -1,3 +1,5 @@
+//! Gauges: a number that a function gives for each marking.
+
 ghost use Rattle.std.specs.Prelude.{◌≡◌, ℤ, List, ℕ};
 ghost use Rattle.std.specs.Borrow.{Bor};
 ghost use Rattle.san_probe.specs.Markings.{IsMarkingOf};
@@ -18,6 +20,7 @@ pub trait Reading {
     /// A call on this marking may answer this.
     ghost answers: { Self → List ℕ → ℤ → Type 0 };
 
+    /// The number for a marking.
     fn read(&self, marking: &[u32]) -> i64
         requires { accepts self.now marking.now }
         ensures { answers self.now marking.now result };

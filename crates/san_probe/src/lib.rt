@@ -3,9 +3,9 @@
 #![tactic(auto)]
 
 mod gauge;
+mod measured;
 mod until;
-mod watching;
 
 pub use gauge::{Gauge, Measure, Reading, Reads};
+pub use measured::{Watched, watch};
 pub use until::{Asking, Asks, Condition, Until};
-pub use watching::{Watched, watch};

@@ -1,3 +1,5 @@
+//! Conditions on markings that a function tells.
+
 ghost use Rattle.std.specs.Prelude.{◌≡◌, Bool, List, ℕ};
 ghost use Rattle.std.specs.Borrow.{Bor};
 ghost use Rattle.san_probe.specs.Markings.{IsMarkingOf};
@@ -18,6 +20,7 @@ pub trait Asking {
     /// A call on this marking may answer this.
     ghost answers: { Self → List ℕ → Bool → Type 0 };
 
+    /// The answer for a marking.
     fn ask(&self, marking: &[u32]) -> bool
         requires { accepts self.now marking.now }
         ensures { answers self.now marking.now result };

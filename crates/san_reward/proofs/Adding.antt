@@ -6,7 +6,7 @@ use Rattle.std.proofs.lemmas.Bool.{ltb-true, ltb-false, leb-true, leb-false}
 use Rattle.san_law.specs.Net.{Net, Rated, Span}
 use Rattle.san_law.specs.Reward.{is_within, leaf_sum, plus, rates_sum, sum_ticks, zero_sum}
 use Rattle.san_law.proofs.Tallies.{plus_first}
-use Rattle.san_reward.specs.Present.{amount, amount_in, amounts, fault, faults, faults_in, overlap, shown, times}
+use Rattle.san_reward.specs.inner.Present.{amount, amount_in, amounts, fault, faults, faults_in, overlap, shown, times}
 
 -- sums with faults counted apart
 shown_plus : (a b : ℤ) (m n : ℕ) → plus (shown a m) (shown b n) ≡ shown (a +ℤ b) (m + n)

@@ -10,8 +10,10 @@ use Rattle.san_law.specs.Reward.{no_span, plus, rates_sum, span_of, sum_ticks, s
 use Rattle.san_law.specs.Reward as law
 use Rattle.san_law.specs.Tally.{going_on, sum_of, sums_from, tally_worth}
 use Rattle.san_law.proofs.Tallies.{plus_last}
-use Rattle.san_reward.specs.Present.{IsAtMost, counted_on, accrued, no_present, overlap, present_at, shown, times}
-use Rattle.san_reward.specs.Running.{IsCounted, Running, advanced, net_in}
+use Rattle.san_reward.specs.Smallness.{IsAtMost}
+use Rattle.san_reward.specs.inner.Present.{counted_on, accrued, no_present, overlap, present_at, shown, times}
+use Rattle.san_reward.specs.inner.Counted.{IsCounted}
+use Rattle.san_reward.specs.Running.{Running, advanced, net_in}
 use Rattle.san_net.specs.Network.{span_in}
 use Rattle.san_net.specs.declared.part.Span as interval
 use Rattle.san_reward.specs.declared.present.Present.{Present}

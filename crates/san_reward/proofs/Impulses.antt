@@ -9,7 +9,7 @@ use Rattle.san_law.specs.Reward.{events_sum, impulses_sum, is_within, plus, span
 use Rattle.san_law.specs.Step.{Event}
 use Rattle.san_law.specs.Tally.{going_on, sums_from, tally_after}
 use Rattle.san_law.proofs.Tallies.{plus_assoc, plus_first, plus_last}
-use Rattle.san_reward.specs.Present.{counted_at}
+use Rattle.san_reward.specs.Running.{counted_at}
 use Rattle.san_reward.specs.Running.{IsOf, Running, with_impulse, with_impulses}
 use Rattle.san_reward.proofs.Counting.{sums_at, sums_like, sums_long}
 

@@ -9,3 +9,4 @@ pub mod Impulses
 pub mod CellsRead
 pub mod RatesSet
 pub mod Computed
+pub mod SmallWorths

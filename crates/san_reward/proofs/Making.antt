@@ -15,9 +15,11 @@ use Rattle.san_net.specs.declared.part.Part.{Part}
 use Rattle.san_net.specs.declared.part.Reward.{Reward}
 use Rattle.san_net.specs.declared.part.Span as interval
 use Rattle.san_net.specs.declared.part.Span.TheVariants as span
-use Rattle.san_reward.specs.Present.{IsAtMost, amount_in, amounts, faults, faults_in, no_present, present_at, present_of, terms_of}
-use Rattle.san_reward.specs.Present as counts
-use Rattle.san_reward.specs.Running.{IsCounted, no_rates, opened, running_of, terms_in}
+use Rattle.san_reward.specs.Smallness.{IsAtMost}
+use Rattle.san_reward.specs.inner.Present.{amount_in, amounts, faults, faults_in, no_present, present_at, present_of, terms_of}
+use Rattle.san_reward.specs.inner.Present as counts
+use Rattle.san_reward.specs.inner.Counted.{IsCounted}
+use Rattle.san_reward.specs.Running.{no_rates, opened, running_of, terms_in}
 use Rattle.san_reward.specs.declared.present.Present.{Present}
 
 -- one row more
@@ -83,12 +85,12 @@ span_low (span.Over from to) h = h.1
 span_low (span.Mean from to) h = h.1
 span_low (span.At tick) h = omega (arith, h)
 
-spans_low : (rs : List Reward) → All (λ r. IsSpan r.span) rs → All (λ s. s.to ≤ MAX_HORIZON + 1) (map (λ r. span_in r.span) rs)
+pub spans_low : (rs : List Reward) → All (λ r. IsSpan r.span) rs → All (λ s. s.to ≤ MAX_HORIZON + 1) (map (λ r. span_in r.span) rs)
 spans_low [] h = λ k d l. absurd (omega (arith, l))
 spans_low (r ∷ rs) h = join (λ s. s.to ≤ MAX_HORIZON + 1) (span_in r.span) (map (λ x. span_in x.span) rs) (span_low r.span (h 0 r (omega arith))) (spans_low rs (λ j x m. h (suc j) x (omega (arith, m))))
 
 -- a reward's terms are few
-few_in : (r : ℕ) (qs ms : List ℕ) → counts.terms_in r qs ≤ count_by (nat_eq r) (qs ++ ms)
+pub few_in : (r : ℕ) (qs ms : List ℕ) → counts.terms_in r qs ≤ count_by (nat_eq r) (qs ++ ms)
 few_in r [] ms = omega arith
 few_in r (q ∷ qs) ms =
     let more = few_in r qs ms in

@@ -14,8 +14,11 @@ use Rattle.san_net.specs.declared.part.Span as interval
 use Rattle.san_law.specs.Net.{Rated}
 use Rattle.san_law.specs.Reward.{is_within, no_span, plus, span_of, zero_sum}
 use Rattle.san_law.specs.Tally.{sum_of}
-use Rattle.san_reward.specs.Present.{IsAtMost, counted_at, amount, amount_in, amounts, fault, faults, faults_in, no_present, present_at, present_of, replaced}
-use Rattle.san_reward.specs.Running.{IsCounted, Running, net_in, rates_with, with_all_rates, with_impulse, with_rate}
+use Rattle.san_reward.specs.Running.{counted_at}
+use Rattle.san_reward.specs.Smallness.{IsAtMost}
+use Rattle.san_reward.specs.inner.Present.{amount, amount_in, amounts, fault, faults, faults_in, no_present, present_at, present_of, replaced}
+use Rattle.san_reward.specs.inner.Counted.{IsCounted}
+use Rattle.san_reward.specs.Running.{Running, net_in, rates_with, with_all_rates, with_impulse, with_rate}
 use Rattle.san_reward.specs.declared.present.Present.{Present}
 
 abbrev part : ℕ → ℕ → Rated → ℤ

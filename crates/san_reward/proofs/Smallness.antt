@@ -4,7 +4,8 @@ use Rattle.std.specs.Prelude.{ℤ, pos, ◌+ℤ◌, ◌*ℤ◌, unsigned_abs, Al
 use Rattle.std.proofs.lemmas.Int.{ints, unsigned_abs-mul}
 use Rattle.san_law.specs.Net.{Rated}
 use Rattle.san_law.specs.Reward.{plus}
-use Rattle.san_reward.specs.Present.{IsAtMost, amount, amount_in, amounts, fault, faults, faults_in, accrued, shown, terms_in, terms_of, times}
+use Rattle.san_reward.specs.Smallness.{IsAtMost}
+use Rattle.san_reward.specs.inner.Present.{amount, amount_in, amounts, fault, faults, faults_in, accrued, shown, terms_in, terms_of, times}
 use Rattle.san_reward.specs.declared.present.Present.{Present}
 
 pub abs_plus : (a b : ℤ) → unsigned_abs (a +ℤ b) ≤ unsigned_abs a + unsigned_abs b
@@ -70,7 +71,7 @@ times_at_most n ticks w h = rw (abs_times w ticks) (product (unsigned_abs w) tic
     product a zero h = omega arith
     product a (suc k) h = let more = product a k h in omega (arith, more, h)
 
-sum_at_most : (m k : ℕ) (sum w : Rated) → IsAtMost m sum → IsAtMost k w → IsAtMost (m + k) (plus sum w)
+pub sum_at_most : (m k : ℕ) (sum w : Rated) → IsAtMost m sum → IsAtMost k w → IsAtMost (m + k) (plus sum w)
 sum_at_most m k None w h l = tt
 sum_at_most m k (Some a) None h l = tt
 sum_at_most m k (Some a) (Some b) h l = let both = abs_plus a b in omega (arith, h, l, both)

@@ -1,4 +1,5 @@
-pub mod Present
 pub mod Running
 pub mod Worth
 pub mod Examples
+pub mod Smallness
+pub mod inner

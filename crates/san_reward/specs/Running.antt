@@ -1,19 +1,16 @@
 -- What a tally knows and has counted.
 use Rattle.std.specs.Prelude.{ℕ, ◌+◌, ◌*◌, ◌^◌, ◌≤◌, ◌<◌, ◌≡◌, All, List, [], ◌∷◌, map, replicate, length, slice_index_or, slice_set}
-use Rattle.san_base.specs.declared.limits.TheConstants.{MAX_HORIZON, MAX_IMPULSES, MAX_LEAVES}
 use Rattle.san_law.specs.Net.{Impulse, Net, Rated, Span, Nothing, Fresh}
-use Rattle.san_law.specs.Reward.{plus, span_of, zero_sum}
+use Rattle.san_law.specs.Reward.{is_within, plus, span_of, zero_sum}
 use Rattle.san_law.specs.Tally.{Tally, sum_of, tally_after}
 use Rattle.san_base.specs.declared.ending.Trap.TheVariants.{Arith}
-use Rattle.std.specs.Prelude.{Err, false}
+use Rattle.std.specs.Prelude.{Err, Some, false, pos, if◌then◌else◌}
 use Rattle.san_law.specs.State.{gather}
 use Rattle.san_net.specs.Laid.{places_of}
 use Rattle.san_net.specs.Leaf.{rate_in}
 use Rattle.san_net.specs.Network.{Network, span_in}
 use Rattle.san_net.specs.declared.part.Part.{Part}
 use Rattle.san_net.specs.declared.part.Span as reward
-use Rattle.san_reward.specs.Present.{IsAtMost, counted_at, present_at, present_of, terms_of}
-use Rattle.san_reward.specs.declared.present.Present.{Present}
 
 -- the horizon, the present time, the rewards' intervals, the rewards of each leaf's rate terms, and what was counted
 pub record Running : Type 0 where
@@ -92,6 +89,10 @@ with_leaf_rates t j ws = record t { tally = record { rates = slice_set t.tally.r
 abbrev pub with_all_rates : Running → List (List Rated) → Running
 with_all_rates t rates = record t { tally = record { rates = rates; sums = t.tally.sums; impulses = t.tally.impulses } }
 
+-- what a reward counts at a time, which is nothing outside of its interval
+abbrev pub counted_at : Span → ℕ → Rated → Rated
+counted_at s time w = if is_within s time then w else Some (pos 0)
+
 -- an impulse at the present time, counted where its reward's interval has this time
 abbrev pub with_impulse : Running → ℕ → Rated → Running
 with_impulse t r w = record t {
@@ -106,18 +107,3 @@ with_impulse t r w = record t {
 abbrev pub with_impulses : Running → List Impulse → Running
 with_impulses t [] = t
 with_impulses t (x ∷ xs) = with_impulses (with_impulse t x.reward x.rated) xs
-
--- what is kept of a tally: the sums of each reward's present rates are at hand, and all sums are small
-pub record IsCounted (t : Running) (present : List Present) : Type 0 where
-  pub horizon : t.horizon ≤ MAX_HORIZON
-  pub time : t.time ≤ t.horizon
-  pub impulses : t.tally.impulses ≤ MAX_IMPULSES
-  pub sums : length t.tally.sums ≡ length t.spans
-  pub sized : length present ≡ length t.spans
-  pub each : (r : ℕ) → r < length t.spans → present_at present r ≡ present_of r t.terms t.tally.rates
-  pub small : (r : ℕ) → IsAtMost (t.time * 2 ^ 79 + t.tally.impulses * 2 ^ 63) (sum_of t.tally r)
-  pub spanned : All (λ s. s.to ≤ MAX_HORIZON + 1) t.spans
-  pub few : (r : ℕ) → terms_of r t.terms ≤ MAX_LEAVES * 16
-  pub known : All (All (λ q. q < length t.spans)) t.terms
-  pub shaped : map length t.tally.rates ≡ map length t.terms
-  pub bounded : All (All (IsAtMost (2 ^ 63))) t.tally.rates

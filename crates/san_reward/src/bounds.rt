@@ -2,7 +2,7 @@
 
 ghost use Rattle.std.specs.Prelude.{◌≡◌, ◌^◌};
 ghost use Rattle.san_base.specs.Rated.{term_value};
-ghost use Rattle.san_reward.specs.Present.{IsAtMost};
+ghost use Rattle.san_reward.specs.Smallness.{IsAtMost};
 
 use san_base::Rated;
 

@@ -1,11 +1,16 @@
 //! What a tally counts is what the law says of its network.
 
-ghost use Rattle.std.specs.Prelude.{◌≡◌, ◌∷◌, [], ℕ};
+ghost use Rattle.std.specs.Prelude.{◌≡◌, ◌≤◌, ◌*◌, ◌∷◌, [], List, ℕ};
+ghost use Rattle.san_base.specs.declared.limits.TheConstants.{MAX_EVENTS};
 ghost use Rattle.san_law.specs.Net.{Net};
 ghost use Rattle.san_law.specs.Network.{Limits};
+ghost use Rattle.san_law.specs.Reward.{worth};
+ghost use Rattle.san_law.specs.State.{State};
 ghost use Rattle.san_law.specs.Step.{Event};
-ghost use Rattle.san_law.specs.Tally.{tally_after, tally_worth};
+ghost use Rattle.san_law.specs.Tally.{impulses_in, tally_after, tally_worth};
+ghost use Rattle.san_net.specs.Laid.{IsNetwork};
 ghost use Rattle.san_net.specs.Network.{Network, net_of};
+ghost use Rattle.san_reward.specs.Smallness.{AreRated, IsSmallWorth};
 ghost use Rattle.san_reward.specs.Running.{IsOf, Running, advanced, net_in, opened, with_impulses};
 
 /// A tally that is opened on a network counts this network's rewards, whatever the draws.
@@ -30,4 +35,13 @@ pub fn a_tally_counts_its_networks_rewards()
 pub fn impulses_are_those_of_the_event()
     ensures { (net : Net) (t : Running) → IsOf net t → (e : Event) → e.time ≡ t.time
         → tally_after net t.tally t.time t.time (e ∷ []) ≡ (with_impulses t e.impulses).tally }
+{}
+
+/// The sum of a reward or of a mean is within 2^96 either way, where the events are as few as a run
+/// may have and tell values of terms: ten thousand of them are summed in 128 bits.
+#[tactic(auto, using(crate::proofs::SmallWorths::small_worth))]
+pub fn worths_are_small()
+    ensures { (n : Network) (draw : ℕ → ℕ → ℕ) (limits : Limits) (opening : State) (es : List Event)
+        (r : ℕ) → IsNetwork n → impulses_in es ≤ MAX_EVENTS * 1024 → AreRated es
+        → IsSmallWorth (worth (net_of n draw limits) r opening es) }
 {}

@@ -3,7 +3,8 @@
 ghost use Rattle.san_base.specs.declared.limits.TheConstants.{MAX_LEAVES};
 ghost use Rattle.std.specs.Prelude.{◌≡◌, ◌*◌, ◌+ℤ◌, ◌-ℤ◌, ◌<◌, ◌≤◌, ◌^◌, [], ℕ, None, length, map, slice_index_or, slice_set, unsigned_abs};
 ghost use Rattle.san_law.specs.Reward.{plus, zero_sum};
-ghost use Rattle.san_reward.specs.Present.{IsAtMost, amount, fault, present_at, replaced};
+ghost use Rattle.san_reward.specs.Smallness.{IsAtMost};
+ghost use Rattle.san_reward.specs.inner.Present.{amount, fault, present_at, replaced};
 ghost use Rattle.san_reward.specs.Running.{rates_with};
 
 use crate::present::{Present, amount, fault, plus};

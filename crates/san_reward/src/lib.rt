@@ -18,7 +18,7 @@ mod zeros;
 pub use examples::{a_fault_in_a_reward, three_rewards};
 pub use laws::{
     a_tally_counts_its_networks_rewards, an_opened_tally_is_of_its_network,
-    impulses_are_those_of_the_event,
+    impulses_are_those_of_the_event, worths_are_small,
 };
 pub use san_base::{Rated, rated};
 pub use tally::Tally;

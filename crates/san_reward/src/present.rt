@@ -5,7 +5,9 @@ ghost use Rattle.std.specs.Prelude.{◌≡◌, ◌<◌, ◌≤◌, ◌^◌, ℕ,
 ghost use Rattle.san_law.specs.Reward.{is_within, plus, zero_sum};
 ghost use Rattle.san_law.specs.Tally.{sums_from};
 ghost use Rattle.san_net.specs.Network.{span_in};
-ghost use Rattle.san_reward.specs.Present.{IsAtMost, amount, counted_at, counted_on, fault, accrued, overlap, present_at};
+ghost use Rattle.san_reward.specs.Running.{counted_at};
+ghost use Rattle.san_reward.specs.Smallness.{IsAtMost};
+ghost use Rattle.san_reward.specs.inner.Present.{amount, counted_on, fault, accrued, overlap, present_at};
 ghost use Rattle.std.specs.Prelude.{◌+◌, All, slice_index_or};
 
 use san_net::Span;

@@ -35,7 +35,8 @@ pub struct Tally {
 impl Model for Tally {
     ghost use Rattle.std.specs.Prelude.{map};
     ghost use Rattle.san_net.specs.Network.{span_in};
-    ghost use Rattle.san_reward.specs.Running.{IsCounted, Running, running_of};
+    ghost use Rattle.san_reward.specs.inner.Counted.{IsCounted};
+    ghost use Rattle.san_reward.specs.Running.{Running, running_of};
 
     ghost Value = { Running };
 

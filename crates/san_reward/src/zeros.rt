@@ -2,7 +2,7 @@
 
 ghost use Rattle.std.specs.Prelude.{◌≡◌, IfOk, map, replicate};
 ghost use Rattle.san_law.specs.Reward.{zero_sum};
-ghost use Rattle.san_reward.specs.Present.{no_present};
+ghost use Rattle.san_reward.specs.inner.Present.{no_present};
 ghost use Rattle.san_reward.specs.Running.{no_rates, terms_in};
 
 use crate::present::Present;

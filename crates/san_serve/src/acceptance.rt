@@ -3,7 +3,8 @@
 ghost use Rattle.std.specs.Prelude.{◌≡◌, ◌≤◌, length, Ok};
 ghost use Rattle.san_base.specs.declared.limits.TheConstants.{MAX_TEXT_BYTES};
 ghost use Rattle.san_text.specs.Texts.{parsed, refused};
-ghost use Rattle.san_serve.specs.Accepted.{Accepts, AcceptsNetwork, accepted, composition_of, limit_of, offset_of_word, within_limits};
+ghost use Rattle.san_serve.specs.Accepted.{Accepts, accepted, composition_of, limit_of, offset_of_word, within_limits};
+ghost use Rattle.san_serve.specs.inner.Accepted.{AcceptsNetwork};
 ghost use Rattle.san_flat.specs.Networks.{composition_in};
 ghost use Rattle.san_serve.specs.declared.acceptance.NotAccepted.TheVariants as not_accepted;
 

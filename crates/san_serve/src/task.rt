@@ -36,6 +36,7 @@ pub trait Task {
         ensures bound { result ≡ (meaning self.now).bound }
         ensures short { result.bytes ≤ MAX_TEXT_BYTES };
 
+    /// Serves bytes that were read; of want of memory nothing was written.
     fn serve<K: Sink>(&self, alloc: Global, bytes: &[u8], sink: &mut K) -> Served
         requires { length bytes.now ≤ (meaning self.now).bound.bytes }
         ensures answer { ServesBytes (meaning self.now) result bytes.now (K.held sink.old)

@@ -1,16 +1,12 @@
 -- What is heard of words.
-use Rattle.std.specs.Prelude.{◌≡◌, ◌<◌, ◌≤◌, ◌^◌, ℕ, List, min, max, Option, None, Some, Result, Ok, Err}
+use Rattle.std.specs.Prelude.{◌≡◌, ◌<◌, ◌≤◌, ◌^◌, ℕ, List, min, max, Option, None, Some}
 use Rattle.std.specs.Str.Parse.{digits_value, without_leading_plus, IsNumeral}
-use Rattle.clap.specs.Matches.{found_of, one_text}
-use Rattle.clap.specs.declared.parser.matches.ArgMatches.{ArgMatches}
 use Rattle.clap.specs.Simple.{App, matches_of}
 use Rattle.clap.specs.Walk.{Text, one_of}
 use Rattle.san_base.specs.Limits.{IsInRange}
 use Rattle.san_base.specs.declared.limits.Limits.{Limits}
 use Rattle.san_words.specs.Commands.{IsTaken}
 use Rattle.san_words.specs.Options.{Row, default_in, least_of, most_of, row_of}
-use Rattle.san_words.specs.declared.matches.Unheard.{Unheard}
-use Rattle.san_words.specs.declared.matches.Unheard.TheVariants as unheard
 use Rattle.san_words.specs.declared.options.TheConstants.{MAX_WORKERS}
 use Rattle.san_words.specs.declared.options.NumberOption.{NumberOption}
 use Rattle.san_words.specs.declared.options.NumberOption.TheVariants.{Burst, Events, Horizon, Rollbacks, Seed, Window, Workers}
@@ -68,12 +64,6 @@ pub record PlainSay (texts : Texts) (o : Orders) : Type 0 where
 -- the texts that a command finds in words
 abbrev pub texts_of : App → List Text → Texts
 texts_of app words id = one_of id (matches_of app words)
-
--- what a command finds in words, or why it finds nothing
-abbrev pub Finds : App → List Text → Result ArgMatches Unheard → Type 0
-Finds app words (Ok m) = IsTaken app words × ((id : Text) → one_text (found_of m) id ≡ texts_of app words id)
-Finds app words (Err unheard.Refused) = IsTaken app words → ⊥
-Finds app words (Err unheard.NoMemory) = Unit {0}
 
 -- the words are taken, and so is what they say; or they aren't taken
 abbrev pub Hears : (Texts → Orders → Type 0) → App → List Text → Heard → Type 0

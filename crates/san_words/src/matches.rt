@@ -2,7 +2,7 @@
 
 ghost use Rattle.std.specs.Prelude.{◌≡◌, map, string_bytes, true};
 ghost use Rattle.clap.specs.Words.{app_of, is_simple, is_simple_and_free};
-ghost use Rattle.san_words.specs.Hears.{Finds};
+ghost use Rattle.san_words.specs.inner.Matches.{Finds};
 
 use clap::error::ErrorKind;
 use clap::{ArgMatches, Command};

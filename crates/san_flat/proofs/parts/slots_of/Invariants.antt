@@ -1,7 +1,7 @@
 use Rattle.std.proofs.Common.{◌≡◌, List, map, take}
 use Rattle.san_flat.specs.Homes.{CellHome, home_of, homes_in}
 use Rattle.san_flat.specs.Networks.{slot_of}
-use Rattle.san_flat.specs.Sightings.{AreAmong, AreNumbers}
+use Rattle.san_flat.specs.inner.Sightings.{AreAmong, AreNumbers}
 use Rattle.san_flat.proofs.parts.slots_of.Given as goal
 
 abbrev pub invariant-cells : goal.invariant-cells

@@ -1,6 +1,6 @@
 use Rattle.std.proofs.Common.{◌++◌, ℕ, List, map, take, true}
 use Rattle.san_flat.specs.Homes.{CellHome, home_of}
-use Rattle.san_flat.specs.Sightings.{Sees}
+use Rattle.san_flat.specs.inner.Sightings.{Sees}
 use Rattle.san_flat.proofs.seen.see_leaf.Given as goal
 
 abbrev pub invariant-cells : goal.invariant-cells

@@ -1,6 +1,7 @@
 use Rattle.std.proofs.Common.{arith, map}
 use Rattle.san_net.specs.Network.{span_in}
-use Rattle.san_reward.specs.Present.{IsAtMost, counted_on}
+use Rattle.san_reward.specs.Smallness.{IsAtMost}
+use Rattle.san_reward.specs.inner.Present.{counted_on}
 use Rattle.std.proofs.Common.{◌^◌, subst, sym}
 use Rattle.san_reward.proofs.Counting.{changed_all, changed_more, gone_same, span_low, sum_small}
 use Rattle.san_reward.proofs.present.count_on.Goals as goal

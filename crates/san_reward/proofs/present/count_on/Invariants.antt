@@ -1,6 +1,6 @@
 use Rattle.std.proofs.Common.{map}
 use Rattle.san_net.specs.Network.{span_in}
-use Rattle.san_reward.specs.Present.{counted_on}
+use Rattle.san_reward.specs.inner.Present.{counted_on}
 use Rattle.san_reward.proofs.Counting.{Changed}
 use Rattle.san_reward.proofs.present.count_on.Given as goal
 

@@ -13,5 +13,5 @@ show_expr-returns-in_ok-put_mark-in-Group-2 t c =
 
 pub show_expr-returns-in_ok-show_expr-in-Binary-2 : goal.show_expr-returns-in_ok-show_expr-in-Binary-2
 show_expr-returns-in_ok-show_expr-in-Binary-2 t c =
-    binary_shown c.args.e.now c.in-Binary.x c.in-Binary.y c.get-in-Binary.result.now c.get-in-Binary-2.result.now c.in-Binary.op c.args.page.now c.show_expr-in-Binary.new.page c.put_sign-in-Binary.new.self c.show_expr-in-Binary-2.new.page c.in-Binary.is c.get-in-Binary.ensures c.get-in-Binary-2.ensures
+    binary_shown c.args.e.now c.in-Binary.x c.in-Binary.y c.get-in-Binary.result.now c.get-in-Binary-2.result.now c.in-Binary.op c.args.page.now c.show_expr-in-Binary.new.page c.put_sign.new.self c.show_expr-in-Binary-2.new.page c.in-Binary.is c.get-in-Binary.ensures c.get-in-Binary-2.ensures
     c.in_ok-show_expr-in-Binary.ensures c.in_ok-put_sign-in-Binary.ensures c.in_ok-show_expr-in-Binary-2.ensures

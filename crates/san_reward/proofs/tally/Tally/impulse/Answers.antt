@@ -1,6 +1,6 @@
 use Rattle.std.proofs.Common.{◌∙◌, ap, refl, sym}
 use Rattle.san_net.specs.Network.{span_in}
-use Rattle.san_reward.specs.Present.{counted_at}
+use Rattle.san_reward.specs.Running.{counted_at}
 use Rattle.san_base.specs.Rated.{term_value}
 use Rattle.san_reward.specs.contracts.tally.Tally.{the_view}
 use Rattle.san_reward.proofs.Counting.{span_is_low}

@@ -1,5 +1,5 @@
 use Rattle.std.proofs.Common.{◌^◌, subst, sym}
-use Rattle.san_reward.specs.Present.{IsAtMost}
+use Rattle.san_reward.specs.Smallness.{IsAtMost}
 use Rattle.san_reward.specs.contracts.tally.Tally.{the_view}
 use Rattle.san_reward.proofs.Counting.{present_small}
 use Rattle.san_reward.proofs.Setting.{fault_in, faults_few, rate_keeps, rates_in}

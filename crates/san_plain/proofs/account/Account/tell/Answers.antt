@@ -1,7 +1,0 @@
-use Rattle.san_plain.proofs.AccountLemmas.{event_keeps}
-use Rattle.san_plain.proofs.account.Account.tell.Goals as goal
-
-pub invariant_of-self : goal.invariant_of-self
-invariant_of-self c =
-    event_keeps c.self.inside.flat.now c.self.inside.tally c.self.inside.marking.items c.args.self.now c.self.view_is c.self.invariant c.args.event c.args.marking.now c.leaf_of-leaf.result c.leaf_of-leaf.ensures.value
-    c.advance.new.self c.follow.new.tally c.count_impulses.new.tally c.follow.new.kept.items c.advance.ensures c.follow.ensures.rates c.count_impulses.ensures c.follow.ensures.kept c.requires.sized

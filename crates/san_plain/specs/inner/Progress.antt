@@ -1,0 +1,83 @@
+-- A run under way: how it stands for a state of the law's run, and what of its report is still to come.
+use Rattle.std.specs.Prelude.{ℕ, ◌≡◌, ◌≤◌, ◌<◌, ◌++◌, List, [], length, Option, Some, None, Result, Ok, Err}
+use Rattle.san_base.specs.Flow.{AppendsPrefix}
+use Rattle.san_base.specs.Limits.{IsInRange}
+use Rattle.san_base.specs.declared.ending.Ending.{Ending}
+use Rattle.san_law.specs.Standing.{Counts}
+use Rattle.san_law.specs.State.{State, opening_state}
+use Rattle.san_law.specs.Step as law
+use Rattle.san_law.specs.Trajectory.{Runs, Trajectory, trajectory}
+use Rattle.san_net.specs.Laid.{IsNetwork}
+use Rattle.san_report.specs.Lines.{ending_line, reward_lines}
+use Rattle.san_report.specs.Puts.{EndsIn}
+use Rattle.san_reward.specs.Running.{IsOf, rates_in}
+use Rattle.san_plain.specs.inner.Accounts.{RewardAccount, opened_account}
+use Rattle.san_report.specs.Closings.{closing}
+use Rattle.san_report.specs.Pages.{Sent}
+use Rattle.san_plain.specs.Reports.{Opened, ending_of, event_lines, net_by, report_of, worth_at}
+use Rattle.san_plain.specs.declared.run.RunInProgress.{RunInProgress}
+use Rattle.san_plain.specs.declared.run.Unwritten.{Unwritten}
+use Rattle.san_seq.specs.FlatRun.{On, Run, opening, steps_left}
+use Rattle.san_seq.specs.Telling.{ending_in}
+
+-- the run that a course was opened for
+abbrev pub opened_by : RunInProgress → Opened
+opened_by c = record { network = c.flat.now; seed = c.seq.seed; limits = c.limits }
+
+-- no event came yet, and nothing was put
+pub record IsOpened (c : RunInProgress) : Type 0 where
+  pub range : IsInRange c.limits
+  pub run : c.seq ≡ opening c.flat.now c.seq.seed c.limits
+  pub rewards : c.account ≡ opened_account c.flat.now c.limits.horizon.0
+  pub page : c.pages ≡ []
+  pub none : c.count ≡ 0
+
+-- an account has counted the events of a run that came to a state
+pub record HasCounted (o : Opened) (es : List law.Event) (s : State) (a : RewardAccount) : Type 0 where
+  pub of_network : a.network ≡ o.network
+  pub at_marking : a.marking ≡ s.marking
+  pub is_of : IsOf (net_by o) a.running
+  pub rates : a.running.tally.rates ≡ rates_in o.network s.marking
+  pub counts : Counts (net_by o) (opening_state (net_by o)) es a.running.time a.running.tally
+  pub early : a.running.time ≤ s.time
+
+-- a run that goes on from a state
+abbrev pub run_at : Opened → State → Run
+run_at o s = record { network = o.network; seed = o.seed; limits = o.limits; going = On s }
+
+-- a run stands for a state that the law's run comes to by these events
+pub record Stands (o : Opened) (es : List law.Event) (s : State) (c : RunInProgress) : Type 0 where
+  pub known : IsNetwork o.network
+  pub range : IsInRange o.limits
+  pub of_network : c.flat.now ≡ o.network
+  pub in_limits : c.limits ≡ o.limits
+  pub runs : Runs (net_by o) (opening_state (net_by o)) es s
+  pub at_state : c.seq ≡ run_at o s
+  pub counted : HasCounted o es s c.account
+  pub many : c.count ≡ length es
+
+-- it does for some state of some run
+abbrev pub IsStanding : RunInProgress → Type 0
+IsStanding c = (o : Opened) × (es : List law.Event) × (s : State) × Stands o es s c
+
+-- what is left of a report after events, by the rest of the run
+abbrev pub left_after : Opened → List law.Event → Option Trajectory → List ℕ
+left_after o es None = []
+left_after o es (Some t) = event_lines o.network (length es) t.events ++ (ending_line o.network (length (es ++ t.events)) (ending_in o.network t.time t.ending) ++ reward_lines o.network.rewards 0 (worth_at (net_by o) (es ++ t.events) t.ending))
+
+-- of the report all lines up to a run's state were put
+abbrev pub IsUnderWay : Opened → Option (List ℕ) → Option (List ℕ) → RunInProgress → Type 0
+IsUnderWay o first now c = (es : List law.Event) × (s : State) × Stands o es s c × Sent first now c.pages (report_of o) (left_after o es (trajectory (net_by o) s))
+
+-- a run has ended, and of its report all but the closing lines were put
+pub record IsOver (o : Opened) (first now : Option (List ℕ)) (c : RunInProgress) (e : Ending) : Type 0 where
+  pub outcome : ending_of o ≡ Some e
+  pub within : EndsIn c.flat.now e
+  pub spans : length c.account.running.spans ≡ length c.flat.now.rewards
+  pub put : Sent first now c.pages (report_of o) (closing c.flat.now c.account.running c.count e)
+
+-- after a turn: the run goes on, with fewer steps to come, or has ended; or the sink failed
+abbrev pub TurnedTo : Opened → Option (List ℕ) → Result (Option Ending) Unwritten → Option (List ℕ) → RunInProgress → RunInProgress → Type 0
+TurnedTo o first (Ok None) now old c = IsUnderWay o first now c × (steps_left c.seq < steps_left old.seq)
+TurnedTo o first (Ok (Some e)) now old c = IsOver o first now c e
+TurnedTo o first (Err fault) now old c = AppendsPrefix first now (report_of o)
