@@ -15,8 +15,8 @@ use Rattle.san_net.specs.Leaf.{completed_in, effected_by}
 use Rattle.san_net.specs.declared.activity.Activity.{Activity}
 use Rattle.san_net.specs.declared.part.Part.{Part}
 use Rattle.san_net.specs.declared.part.Slot.{Slot}
-use Rattle.san_seq.specs.Completions.{left_by}
-use Rattle.san_seq.specs.Views.{Seen, sight_of}
+use Rattle.san_seq.specs.inner.Completions.{left_by}
+use Rattle.san_seq.specs.inner.Views.{Seen, sight_of}
 use Rattle.san_seq.proofs.ViewLemmas.{called}
 
 module _ (places m after : List ℕ) where

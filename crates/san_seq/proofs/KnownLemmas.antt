@@ -18,15 +18,15 @@ use Rattle.san_net.specs.Leaf.{first_in, leaf_of}
 use Rattle.san_net.specs.Network.{Network, net_of}
 use Rattle.san_net.specs.declared.part.Part.{Part}
 use Rattle.san_law.specs.Clocks.{renewed_row}
-use Rattle.san_seq.specs.Known.{AreFresh, AreIdle, AreQuiet, AreSettled, HaveNothing, HaveSame, IsIdle, TouchedAll}
-use Rattle.san_seq.specs.Nexts.{first_by, first_from, first_of_part, next_among}
-use Rattle.san_seq.specs.Overs.{instant_in}
-use Rattle.san_seq.specs.Renewals.{renewed_part}
-use Rattle.san_seq.specs.Rows.{row_at}
-use Rattle.san_seq.specs.States.{Told, told_by}
-use Rattle.san_seq.specs.Running.{told_in}
-use Rattle.san_seq.specs.declared.step.Completion.{Completion}
-use Rattle.san_seq.specs.declared.step.Ended.{Ended}
+use Rattle.san_seq.specs.inner.Known.{AreFresh, AreIdle, AreQuiet, AreSettled, HaveNothing, HaveSame, IsIdle, TouchedAll}
+use Rattle.san_seq.specs.inner.Nexts.{first_by, first_from, first_of_part, next_among}
+use Rattle.san_seq.specs.inner.States.{instant_in}
+use Rattle.san_seq.specs.Telling.{told_of}
+use Rattle.san_seq.specs.inner.Renewals.{renewed_part}
+use Rattle.san_seq.specs.inner.Rows.{row_at}
+use Rattle.san_base.specs.declared.ending.Ending.{Ending}
+use Rattle.san_base.specs.declared.ending.Event.{Event}
+use Rattle.san_seq.proofs.ToldLemmas.{Told, happened, told_by}
 use Rattle.san_seq.proofs.NextLemmas.{cut}
 use Rattle.san_net.proofs.PartLemmas.{lies_over, places_are}
 use Rattle.san_seq.proofs.RowLemmas.{part_renewed}
@@ -247,9 +247,9 @@ places_within : (n : Network) (m : List ℕ) → length m ≡ length n.initial �
 places_within n m sized lies i p k q is at = all_below_at (places_of p) (length m) k q (lies_over n i p is m sized lies).within at
 
 -- what is told is what a step told
-pub if_told : (r : Result Completion Ended) (x : Result Told (ℕ × law.Ending)) (P : Type 0) → told_in r ≡ x → ((t : Told) → x ≡ Ok t → P) → IfOk r (λ c. P)
-if_told (Ok c) x P e h = h _ (sym e)
-if_told (Err e) x P is h = tt
+pub if_told : (now : Result Event Ending) (n : Network) (x : law.Stepped) (P : Type 0) → now ≡ told_of n x → ((t : Told) → told_by x ≡ Ok t → P) → IfOk now (λ e. P)
+if_told (Ok e) n x P is h = let got = happened n x e (sym is) in h got.0 got.1
+if_told (Err e) n x P is h = tt
 
 -- flags over markings that are these
 touched_over : (n : Network) (places stable m a b : List ℕ) (old new : List Bool) → a ≡ stable → b ≡ m → TouchedAll n places a b old new → TouchedAll n places stable m old new

@@ -16,7 +16,7 @@ use Rattle.san_net.specs.Laid.{places_of}
 use Rattle.san_net.specs.Leaf.{activities_from, activity_in, completed_in}
 use Rattle.san_net.specs.declared.atomic.ImpulseTerm.{ImpulseTerm}
 use Rattle.san_net.specs.declared.part.Part.{Part}
-use Rattle.san_seq.specs.Completions.{completed_by, leaf_told, left_by, part_told, told_of}
+use Rattle.san_seq.specs.inner.Completions.{completed_by, leaf_told, left_by, part_told, told_of}
 
 some_is : {A : Type 0} (x y : A) → (let o : Option A = Some x in o) ≡ Some y → x ≡ y
 some_is x y e = cc

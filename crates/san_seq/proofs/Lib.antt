@@ -14,6 +14,7 @@ pub mod RunLemmas
 pub mod RunningLemmas
 pub mod StateLemmas
 pub mod SteppingLemmas
+pub mod ToldLemmas
 pub mod TouchLemmas
 pub mod ViewLemmas
 pub mod WithinLemmas

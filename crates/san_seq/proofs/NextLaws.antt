@@ -11,7 +11,7 @@ use Rattle.san_net.specs.Laid.{IsNetwork, places_of}
 use Rattle.san_net.specs.Leaf.{leaf_of}
 use Rattle.san_net.specs.Network.{Network, net_of, network_in}
 use Rattle.san_net.specs.declared.part.Part.{Part}
-use Rattle.san_seq.specs.Nexts.{first_by, first_from, first_of_part, next_among}
+use Rattle.san_seq.specs.inner.Nexts.{first_by, first_from, first_of_part, next_among}
 use Rattle.san_seq.proofs.NextLemmas.{cut, none_left}
 use Rattle.san_net.proofs.PartLemmas.{part_is, places_are}
 

@@ -22,7 +22,7 @@ use Rattle.san_net.specs.declared.part.Slot.{Slot}
 use Rattle.san_net.proofs.CellLemmas.{cells_are}
 use Rattle.san_net.proofs.FirstLemmas.{accepted_below}
 use Rattle.san_seq.specs.declared.next.Next.{Next}
-use Rattle.san_seq.specs.Nexts.{first_by, first_from, next_in}
+use Rattle.san_seq.specs.inner.Nexts.{first_by, first_from, next_in}
 
 module _ (p : Part) (slots : List Slot) (m values : List ℕ) (slot : slots ≡ p.slots) (seen : values ≡ gather (map place_of slots) m) where
   values_are : values ≡ gather (places_of p) m

@@ -4,7 +4,7 @@ use Rattle.std.specs.Prelude.{slice_get}
 use Rattle.san_law.specs.Net as net
 use Rattle.san_law.specs.State.{blank_row}
 use Rattle.san_net.specs.declared.part.Part.{Part}
-use Rattle.san_seq.specs.Openings.{rows_of}
+use Rattle.san_seq.specs.inner.Openings.{rows_of}
 
 -- one item more is taken
 pub take_more : {A : Type 0} (xs : List A) (k : ℕ) (a : A) → slice_get xs k ≡ Some a → take k xs ++ a ∷ [] ≡ take (k + 1) xs

@@ -13,7 +13,7 @@ use Rattle.san_net.specs.Laid.{IsNetwork}
 use Rattle.san_net.specs.Leaf.{activities_from, leaf_of}
 use Rattle.san_net.specs.Network.{Network, net_of, network_in}
 use Rattle.san_net.specs.declared.atomic.ImpulseTerm.{ImpulseTerm}
-use Rattle.san_seq.specs.Rows.{AreRows, row_at}
+use Rattle.san_seq.specs.inner.Rows.{AreRows, row_at}
 use Rattle.san_net.specs.Tables.{IsActOf}
 use Rattle.san_seq.proofs.NextLemmas.{cut}
 use Rattle.san_net.proofs.PartLemmas.{part_is}

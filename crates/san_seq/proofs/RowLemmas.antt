@@ -12,10 +12,10 @@ use Rattle.san_law.specs.State.{State, gather}
 use Rattle.san_net.specs.Laid.{places_of}
 use Rattle.san_net.specs.Network.{Network, net_of, network_in}
 use Rattle.san_net.specs.declared.part.Part.{Part}
-use Rattle.san_seq.specs.Known.{AreFresh}
+use Rattle.san_seq.specs.inner.Known.{AreFresh}
 use Rattle.san_clock.specs.Rows.{renewing_by}
-use Rattle.san_seq.specs.Renewals.{renewed_part}
-use Rattle.san_seq.specs.Rows.{AreDrawn, IsLike, row_at}
+use Rattle.san_seq.specs.inner.Renewals.{renewed_part}
+use Rattle.san_seq.specs.inner.Rows.{AreDrawn, IsLike, row_at}
 use Rattle.san_seq.proofs.NextLemmas.{cut}
 use Rattle.san_net.proofs.PartLemmas.{part_is, places_are}
 use Rattle.san_clock.proofs.RenewalLemmas.{all_taken, appended, ended, from_here, set_front, set_rest}

@@ -12,7 +12,7 @@ use Rattle.san_net.specs.Network.{Network}
 use Rattle.san_net.specs.Tables.{importers_of}
 use Rattle.san_net.specs.declared.part.Part.{Part}
 use Rattle.san_net.proofs.CellLemmas.{CaughtUp}
-use Rattle.san_seq.specs.Known.{HaveSame, Raised, StayUp, Touched, TouchedAll}
+use Rattle.san_seq.specs.inner.Known.{HaveSame, Raised, StayUp, Touched, TouchedAll}
 
 same_of : {X : Type 0} (x y : X) → (let o : Option X = Some x in o) ≡ Some y → x ≡ y
 same_of x y e = cc

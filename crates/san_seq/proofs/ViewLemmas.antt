@@ -16,7 +16,7 @@ use Rattle.san_net.specs.Laid.{place_of}
 use Rattle.san_net.proofs.CellLemmas.{below_at, cells_are, gathered, not_there, outside_set, put_together}
 use Rattle.san_net.specs.declared.part.Slot.{Slot}
 use Rattle.san_net.specs.declared.part.Slot.TheVariants.{Private}
-use Rattle.san_seq.specs.Views.{Seen, outside, shown, sight_of}
+use Rattle.san_seq.specs.inner.Views.{Seen, outside, shown, sight_of}
 
 rest_of : (p s : ℕ) (ss : List ℕ) → index_of p (s ∷ ss) ≡ None → index_of p ss ≡ None
 rest_of p s ss none = by_test (nat_eq p s) (index_of p ss) none

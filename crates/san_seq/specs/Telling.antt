@@ -7,8 +7,7 @@ use Rattle.san_base.specs.declared.ending.Stop.TheVariants as stop
 use Rattle.san_law.specs.Step as law
 use Rattle.san_law.specs.Trajectory as whole
 use Rattle.san_net.specs.Network.{Network}
-use Rattle.san_net.specs.Tables.{IsActOf, act_of}
-use Rattle.san_seq.specs.States.{Told}
+use Rattle.san_net.specs.Tables.{act_of}
 use Rattle.san_seq.specs.declared.steps.Stepped.{Stepped}
 use Rattle.san_seq.specs.declared.steps.Stepped.TheVariants as stepped
 use Rattle.san_seq.specs.declared.steps.Trajectory.{Trajectory}
@@ -37,18 +36,3 @@ stepped_of (Err e) = stop_of e
 
 abbrev pub trajectory_in : Network → whole.Trajectory → Trajectory
 trajectory_in n t = record { events = map (event_in n) t.events; ending = ending_in n t.time t.ending }
-
-abbrev pub IsEndingOf : Network → law.Ending → Type 0
-IsEndingOf n law.End = Unit {0}
-IsEndingOf n law.Unstable = Unit {0}
-IsEndingOf n law.Events = Unit {0}
-IsEndingOf n (law.Trapped j k trap) = IsActOf n j k
-
--- what is told is of activities that the network has
-abbrev pub IsToldOf : Network → Result Told (ℕ × law.Ending) → Type 0
-IsToldOf n (Ok t) = IsActOf n t.leaf t.act
-IsToldOf n (Err e) = IsEndingOf n e.1
-
--- an event, without the impulses
-abbrev pub event_by : Network → Told → Event
-event_by n t = record { time = record { 0 = t.time }; act = act_of n t.leaf t.act; case = t.case }

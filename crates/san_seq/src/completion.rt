@@ -7,8 +7,8 @@ ghost use Rattle.san_net.specs.Accepted.{IsAccepted};
 ghost use Rattle.san_net.specs.Cells.{IsOver};
 ghost use Rattle.san_net.specs.Laid.{acts_of, places_of};
 ghost use Rattle.san_net.specs.declared.part.Part.{Part};
-ghost use Rattle.san_seq.specs.Completions.{completed_by, leaf_told, part_told};
-ghost use Rattle.san_seq.specs.Rows.{IsRowOf};
+ghost use Rattle.san_seq.specs.inner.Completions.{completed_by, leaf_told, part_told};
+ghost use Rattle.san_seq.specs.inner.Rows.{IsRowOf};
 
 use crate::view::LeafView;
 use san_base::{LeafId, MAX_ACTS, MAX_CELLS, Trap};

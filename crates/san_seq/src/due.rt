@@ -5,8 +5,8 @@ ghost use Rattle.std.specs.Option.{option_map};
 ghost use Rattle.san_law.specs.Net.{and_timer, least_timer, sooner_act};
 ghost use Rattle.san_law.specs.Renewal.{and_sooner, least_from};
 ghost use Rattle.san_clock.specs.Rows.{timer_in};
-ghost use Rattle.san_seq.specs.Dues.{due_in};
-ghost use Rattle.san_seq.specs.Rows.{row_at};
+ghost use Rattle.san_seq.specs.inner.Dues.{due_in};
+ghost use Rattle.san_seq.specs.inner.Rows.{row_at};
 
 use san_base::{LeafId, MAX_ACTS};
 use san_clock::{Row, Timer};

@@ -3,9 +3,9 @@
 ghost use Rattle.std.specs.Prelude.{◌≡◌, ◌<◌, length};
 ghost use Rattle.san_law.specs.Net.{Net};
 ghost use Rattle.san_law.specs.Step as law;
-ghost use Rattle.san_seq.specs.Dues.{due_in};
-ghost use Rattle.san_seq.specs.Known.{HaveSame};
-ghost use Rattle.san_seq.specs.Rows.{row_at};
+ghost use Rattle.san_seq.specs.inner.Dues.{due_in};
+ghost use Rattle.san_seq.specs.inner.Known.{HaveSame};
+ghost use Rattle.san_seq.specs.inner.Rows.{row_at};
 
 use crate::due::Due;
 use crate::stale::catch_up;
@@ -35,7 +35,6 @@ pub(crate) fn fire(flat: &Flat, stale: &mut Flags, due: Due, state: State) -> St
         stable,
         rows,
         burst: 0,
-        last: state.last,
-        count: state.count,
+        ..state
     }
 }

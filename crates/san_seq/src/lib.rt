@@ -1,7 +1,6 @@
 //! The sequential run of a model: one step at a time, or the whole trajectory.
 #![tactic(auto)]
 
-mod answer;
 mod completion;
 mod due;
 mod fire;
@@ -21,4 +20,4 @@ pub use laws::{
     a_run_comes_to_its_end, events_are_the_first, events_are_the_laws, events_come_in_time,
 };
 pub use seq::Seq;
-pub use steps::{Stepped, Trajectory};
+pub use steps::{Stable, Stepped, Trajectory};

@@ -8,8 +8,8 @@ ghost use Rattle.san_law.specs.State.{gather};
 ghost use Rattle.san_net.specs.Accepted.{IsAccepted};
 ghost use Rattle.san_net.specs.Laid.{places_of};
 ghost use Rattle.san_net.specs.Leaf.{found_by, first_in};
-ghost use Rattle.san_seq.specs.Known.{HaveNothing};
-ghost use Rattle.san_seq.specs.Nexts.{first_by, first_from, next_among, next_in};
+ghost use Rattle.san_seq.specs.inner.Known.{HaveNothing};
+ghost use Rattle.san_seq.specs.inner.Nexts.{first_by, first_from, next_among, next_in};
 
 use san_base::{LeafId, Trap};
 use san_net::{FirstInstant, Flat, LeafCells, Part, first_instant};

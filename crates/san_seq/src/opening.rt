@@ -1,7 +1,7 @@
 //! What stands before the first step.
 
 ghost use Rattle.std.specs.Prelude.{◌≡◌, IfOk};
-ghost use Rattle.san_seq.specs.Openings.{rows_of};
+ghost use Rattle.san_seq.specs.inner.Openings.{rows_of};
 
 use san_base::{LeafId, NoMemory};
 use san_clock::Row;

@@ -11,9 +11,9 @@ ghost use Rattle.san_net.specs.Accepted.{IsAccepted};
 ghost use Rattle.san_net.specs.Laid.{acts_of, places_of};
 ghost use Rattle.san_net.specs.Network.{net_of};
 ghost use Rattle.san_net.specs.declared.part.Part.{Part};
-ghost use Rattle.san_seq.specs.Known.{AreFresh};
-ghost use Rattle.san_seq.specs.Renewals.{renewed_part};
-ghost use Rattle.san_seq.specs.Rows.{AreDrawn, AreRows, IsLike, IsRowOf, renewal_by, row_at};
+ghost use Rattle.san_seq.specs.inner.Known.{AreFresh};
+ghost use Rattle.san_seq.specs.inner.Renewals.{renewed_part};
+ghost use Rattle.san_seq.specs.inner.Rows.{AreDrawn, AreRows, IsLike, IsRowOf, renewal_by, row_at};
 
 use san_base::{LeafId, MAX_ACTS, Trap};
 use san_clock::{Renewal, Row, renew};

@@ -3,7 +3,7 @@
 ghost use Rattle.std.specs.Prelude.{◌≡◌, ◌<◌, ℕ, true, length, slice_get, Some};
 ghost use Rattle.san_net.specs.Laid.{places_of};
 ghost use Rattle.san_net.specs.declared.part.Part.{Part};
-ghost use Rattle.san_seq.specs.Known.{HaveSame, Raised, Touched, TouchedAll};
+ghost use Rattle.san_seq.specs.inner.Known.{HaveSame, Raised, Touched, TouchedAll};
 
 use san_base::{LeafId, PlaceId};
 use san_net::{Flat, copy_cells};

@@ -11,57 +11,25 @@ ghost use Rattle.san_law.specs.Step as law_step;
 ghost use Rattle.san_net.specs.Laid.{acts_of};
 ghost use Rattle.san_net.specs.Network.{net_of};
 ghost use Rattle.san_base.specs.Limits.{IsInRange};
-ghost use Rattle.san_seq.specs.Dues.{due_in};
-ghost use Rattle.san_seq.specs.Known.{AreFresh, AreIdle, AreQuiet, AreSettled, HaveNothing, HaveSame};
-ghost use Rattle.san_seq.specs.Nexts.{next_in};
-ghost use Rattle.san_seq.specs.Overs.{limits_in, told_case};
-ghost use Rattle.san_seq.specs.Rows.{AreDrawn, AreRows, IsLike, renewal_by, row_at};
-ghost use Rattle.san_seq.specs.Running.{IsDrawn, IsRunning, Steps, told_in, with_rows};
-ghost use Rattle.san_seq.specs.declared.limits.Over.TheVariants as over;
+ghost use Rattle.san_seq.specs.inner.Dues.{due_in};
+ghost use Rattle.san_seq.specs.inner.Known.{AreFresh, AreIdle, AreQuiet, AreSettled, HaveNothing, HaveSame};
+ghost use Rattle.san_seq.specs.inner.Nexts.{next_in};
+ghost use Rattle.san_seq.specs.Overs.{limits_in};
+ghost use Rattle.san_seq.specs.inner.Rows.{AreDrawn, AreRows, IsLike, renewal_by, row_at};
+ghost use Rattle.san_seq.specs.inner.Running.{IsDrawn, IsRunning, Steps, with_rows};
 
 use crate::due::{Due, least_due};
 use crate::fire::fire;
-use crate::limits::{Over, complete_instant, complete_timed};
+use crate::limits::{complete_instant, complete_timed};
 use crate::next::{Next, next_instant};
 use crate::renewal::{Markings, renew_rows};
 use crate::stale::touch;
-use crate::state::State;
-use san_base::{LeafId, Limits, Trap};
+use crate::state::{State, trapped};
+use san_base::{Ending, Event, LeafId, Limits, Trap};
 use san_delay::DelayTables;
 use san_draw::Streams;
 use san_net::Flat;
 use san_winner::Flags;
-
-/// A completion: its time in ticks, its leaf, its activity's number there, and its case.
-#[derive(Clone, Copy, Debug, PartialEq, Eq)]
-pub(crate) struct Completion {
-    pub(crate) time: u64,
-    pub(crate) leaf: LeafId,
-    pub(crate) act: u32,
-    pub(crate) case: u32,
-}
-
-/// When a run ends, in ticks, and how.
-#[derive(Clone, Copy, Debug, PartialEq, Eq)]
-pub(crate) struct Ended {
-    pub(crate) time: u64,
-    pub(crate) over: Over,
-}
-
-/// What an activity's completion at a time comes to.
-fn told(time: u64, leaf: LeafId, act: u32, case: Result<u32, Over>) -> Result<Completion, Ended>
-    ensures { told_in result ≡ told_case time leaf.0 act case }
-{
-    match case {
-        Ok(case) => Ok(Completion {
-            time,
-            leaf,
-            act,
-            case,
-        }),
-        Err(over) => Err(Ended { time, over }),
-    }
-}
 
 /// Which instantaneous activity completes next in a state.
 pub(crate) fn next_of(flat: &Flat, stale: &Flags, state: &State) -> Next
@@ -127,7 +95,7 @@ fn at_due(
     stale: &mut Flags,
     due: Due,
     state: State,
-) -> (Result<Completion, Ended>, State)
+) -> (Result<Event, Ending>, State)
     requires range { IsInRange limits.now }
     requires drawn { IsDrawn flat.now limits.now (state.count + 1) state }
     requires leaf { due.leaf.0 < length state.rows }
@@ -136,32 +104,22 @@ fn at_due(
     requires same { HaveSame flat.now.parts stale.old state.stable state.marking }
     requires quiet { AreQuiet (draw_of streams.old.seed) flat.now.parts state.marking state.rows }
     requires streams { 2 * acts_of flat.now.parts ≤ streams.old.streams }
-    ensures steps { (s : law_state.State) → with_rows state.rows s ≡ state → Steps result.0 result.1
+    ensures steps { (s : law_state.State) → with_rows state.rows s ≡ state → Steps flat.now result.0 result.1
         (law_step.at_due (net_of flat.now (draw_of streams.old.seed) (limits_in limits.now)) s
         state.rows (Some (due_in due))) }
-    ensures running { IfOk result.0 (λ c. IsRunning flat.now limits.now result.1) }
-    ensures known { IfOk result.0 (λ c. AreIdle flat.now (draw_of streams.old.seed) stale.new
+    ensures running { IfOk result.0 (λ e. IsRunning flat.now limits.now result.1) }
+    ensures known { IfOk result.0 (λ e. AreIdle flat.now (draw_of streams.old.seed) stale.new
         result.1) }
     ensures streams { streams.new ≡ streams.old }
 {
     flat.is_network();
     if due.time <= limits.horizon.0 {
         let then = fire(flat, stale, due, state);
-        let (case, left) = complete_timed(flat, streams, limits, due.leaf, due.act, then);
+        let (answer, left) = complete_timed(flat, streams, limits, due.leaf, due.act, then);
         touch(flat, due.leaf, &left.stable, &left.marking, stale);
-        (told(due.time, due.leaf, due.act, case), left)
+        (answer, left)
     } else {
-        (Err(at_horizon(limits)), state)
-    }
-}
-
-/// The run's end at its horizon.
-fn at_horizon(limits: &Limits) -> Ended
-    ensures { result ≡ record { time = limits.now.horizon.0; over = over.End } }
-{
-    Ended {
-        time: limits.horizon.0,
-        over: Over::End,
+        (Err(Ending::End(limits.horizon)), state)
     }
 }
 
@@ -173,16 +131,16 @@ fn at_rest(
     limits: &Limits,
     stale: &mut Flags,
     state: State,
-) -> (Result<Completion, Ended>, State)
+) -> (Result<Event, Ending>, State)
     requires range { IsInRange limits.now }
     requires running { IsRunning flat.now limits.now state }
     requires known { AreIdle flat.now (draw_of streams.old.seed) stale.old state }
     requires settled { AreSettled flat.now.parts state.marking }
     requires streams { 2 * acts_of flat.now.parts ≤ streams.old.streams }
-    ensures steps { Steps result.0 result.1 (law_step.at_next (net_of flat.now
+    ensures steps { Steps flat.now result.0 result.1 (law_step.at_next (net_of flat.now
         (draw_of streams.old.seed) (limits_in limits.now)) state law.Stable) }
-    ensures running { IfOk result.0 (λ c. IsRunning flat.now limits.now result.1) }
-    ensures known { IfOk result.0 (λ c. AreIdle flat.now (draw_of streams.old.seed) stale.new
+    ensures running { IfOk result.0 (λ e. IsRunning flat.now limits.now result.1) }
+    ensures known { IfOk result.0 (λ e. AreIdle flat.now (draw_of streams.old.seed) stale.new
         result.1) }
     ensures streams { streams.new ≡ streams.old }
 {
@@ -191,14 +149,11 @@ fn at_rest(
     match done {
         Ok(()) => match least_due(left.rows.as_slice()) {
             Some(due) => at_due(flat, streams, limits, stale, due, left),
-            None => (Err(at_horizon(limits)), left),
+            None => (Err(Ending::End(limits.horizon)), left),
         },
         Err((leaf, act, trap)) => {
-            let ended = Ended {
-                time: left.time,
-                over: Over::Trapped(leaf, act, trap),
-            };
-            (Err(ended), left)
+            let ending = trapped(flat, left.time, leaf, act, trap);
+            (Err(ending), left)
         }
     }
 }
@@ -213,15 +168,15 @@ pub(crate) fn step(
     limits: &Limits,
     stale: &mut Flags,
     state: State,
-) -> (Result<Completion, Ended>, State)
+) -> (Result<Event, Ending>, State)
     requires range { IsInRange limits.now }
     requires running { IsRunning flat.now limits.now state }
     requires known { AreIdle flat.now (draw_of streams.old.seed) stale.old state }
     requires streams { 2 * acts_of flat.now.parts ≤ streams.old.streams }
-    ensures steps { Steps result.0 result.1 (law_step.step (net_of flat.now
+    ensures steps { Steps flat.now result.0 result.1 (law_step.step (net_of flat.now
         (draw_of streams.old.seed) (limits_in limits.now)) state) }
-    ensures running { IfOk result.0 (λ c. IsRunning flat.now limits.now result.1) }
-    ensures known { IfOk result.0 (λ c. AreIdle flat.now (draw_of streams.old.seed) stale.new
+    ensures running { IfOk result.0 (λ e. IsRunning flat.now limits.now result.1) }
+    ensures known { IfOk result.0 (λ e. AreIdle flat.now (draw_of streams.old.seed) stale.new
         result.1) }
     ensures streams { streams.new ≡ streams.old }
 {
@@ -229,17 +184,13 @@ pub(crate) fn step(
     match next_of(flat, stale, &state) {
         Next::Stable => at_rest(flat, tables, streams, limits, stale, state),
         Next::Completes(leaf, act) => {
-            let time = state.time;
-            let (case, left) = complete_instant(flat, streams, limits, leaf, act, state);
+            let (answer, left) = complete_instant(flat, streams, limits, leaf, act, state);
             touch(flat, leaf, &left.stable, &left.marking, stale);
-            (told(time, leaf, act, case), left)
+            (answer, left)
         }
         Next::Traps(leaf, act, trap) => {
-            let ended = Ended {
-                time: state.time,
-                over: Over::Trapped(leaf, act, trap),
-            };
-            (Err(ended), state)
+            let ending = trapped(flat, state.time, leaf, act, trap);
+            (Err(ending), state)
         }
     }
 }

@@ -4,7 +4,7 @@ ghost use Rattle.std.specs.Prelude.{◌≡◌, ◌<◌, ◌≤◌, length, map};
 ghost use Rattle.san_expr.specs.View.{Sight, Reads, assigned};
 ghost use Rattle.san_net.specs.Cells.{IsOver};
 ghost use Rattle.san_net.specs.Laid.{place_of};
-ghost use Rattle.san_seq.specs.Views.{sight_of};
+ghost use Rattle.san_seq.specs.inner.Views.{sight_of};
 
 use san_expr::{Cells, Marked};
 use san_net::Slot;
@@ -21,7 +21,7 @@ impl<'a> Model for LeafView<'a> {
     ghost use Rattle.std.specs.Prelude.{map};
     ghost use Rattle.san_net.specs.Laid.{place_of};
     ghost use Rattle.san_net.specs.Cells.{IsOver};
-    ghost use Rattle.san_seq.specs.Views.{Seen};
+    ghost use Rattle.san_seq.specs.inner.Views.{Seen};
 
     ghost Value = { Seen };
 

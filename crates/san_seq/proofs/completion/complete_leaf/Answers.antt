@@ -5,7 +5,7 @@ use Rattle.san_draw.specs.Key.{draw_of}
 use Rattle.san_law.specs.State.{gather, scatter}
 use Rattle.san_net.specs.Laid.{place_of, places_of}
 use Rattle.san_net.specs.Leaf.{completed_in}
-use Rattle.san_seq.specs.Completions.{completed_by}
+use Rattle.san_seq.specs.inner.Completions.{completed_by}
 use Rattle.san_seq.proofs.CompletionLemmas.{completes, over_after, refilled, traps}
 use Rattle.san_seq.proofs.LeafCompletionLemmas.{counted_same, done_is, kept_is, not_counted, sized_is}
 use Rattle.san_seq.proofs.NextLemmas.{cut}

@@ -1,7 +1,7 @@
 use Rattle.std.proofs.Common.{arith, ◌∙◌, ap, sym, ◌+◌, drop, length, unwrap_or, Option}
 use Rattle.std.specs.Option.{option_map}
 use Rattle.san_seq.specs.declared.next.Next.{Next}
-use Rattle.san_seq.specs.Nexts.{first_from, next_in}
+use Rattle.san_seq.specs.inner.Nexts.{first_from, next_in}
 use Rattle.san_seq.proofs.NextLemmas.{none_left, skipped_to, went_on}
 use Rattle.san_seq.proofs.next.first_of_all.Goals as goal
 

@@ -1,5 +1,5 @@
 use Rattle.std.proofs.Common.{◌≡◌, ◌-◌, length, drop}
-use Rattle.san_seq.specs.Nexts.{first_from}
+use Rattle.san_seq.specs.inner.Nexts.{first_from}
 use Rattle.san_seq.proofs.next.first_of_all.Given as goal
 
 abbrev pub invariant-leaves : goal.invariant-leaves

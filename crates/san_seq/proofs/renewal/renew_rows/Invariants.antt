@@ -4,7 +4,7 @@ use Rattle.san_law.specs.Network.{Limits}
 use Rattle.san_law.specs.Renewal as law
 use Rattle.san_law.specs.State.{State}
 use Rattle.san_net.specs.Network.{net_of}
-use Rattle.san_seq.specs.Rows.{AreDrawn, IsLike, row_at}
+use Rattle.san_seq.specs.inner.Rows.{AreDrawn, IsLike, row_at}
 use Rattle.san_seq.proofs.RowLemmas.{in_front}
 use Rattle.san_seq.proofs.renewal.renew_rows.Given as goal
 

@@ -1,4 +1,4 @@
-use Rattle.san_seq.specs.Known.{Raised}
+use Rattle.san_seq.specs.inner.Known.{Raised}
 use Rattle.std.proofs.Common.{take}
 use Rattle.san_seq.proofs.stale.raise.Given as goal
 

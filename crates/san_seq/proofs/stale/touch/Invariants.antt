@@ -1,7 +1,7 @@
 use Rattle.std.proofs.Common.{◌≡◌, Some, true, take, map}
 use Rattle.std.specs.Prelude.{slice_get}
 use Rattle.san_net.specs.Laid.{place_of}
-use Rattle.san_seq.specs.Known.{TouchedAll}
+use Rattle.san_seq.specs.inner.Known.{TouchedAll}
 use Rattle.san_seq.proofs.stale.touch.Given as goal
 
 abbrev pub invariant-cells : goal.invariant-cells

@@ -1,6 +1,6 @@
 use Rattle.std.proofs.Common.{subst, List}
 use Rattle.san_base.specs.declared.numbers.LeafId.{LeafId}
-use Rattle.san_seq.specs.Known.{Raised}
+use Rattle.san_seq.specs.inner.Known.{Raised}
 use Rattle.san_seq.proofs.TouchLemmas.{touched_raised}
 use Rattle.san_seq.proofs.stale.touch_place.Goals as goal
 

@@ -3,36 +3,35 @@ use Rattle.san_draw.specs.Key.{draw_of}
 use Rattle.san_law.specs.State.{State}
 use Rattle.san_law.specs.Step.{at_due, fire}
 use Rattle.san_net.specs.Network.{net_of}
-use Rattle.san_seq.specs.Dues.{due_in}
+use Rattle.san_seq.specs.inner.Dues.{due_in}
 use Rattle.san_seq.specs.Overs.{limits_in}
-use Rattle.san_seq.specs.Running.{IsDrawn}
-use Rattle.san_seq.specs.States.{told_by}
+use Rattle.san_seq.specs.inner.Running.{IsDrawn}
 use Rattle.san_seq.proofs.KnownLemmas.{fire_sized, if_told, timed_known}
 use Rattle.san_seq.proofs.RunningLemmas.{counted_small, fired_drawn}
-use Rattle.san_seq.proofs.SteppingLemmas.{due_fires, fired_told, steps_like, timed_runs}
+use Rattle.san_seq.proofs.SteppingLemmas.{due_fires, steps_like, timed_runs}
 use Rattle.san_seq.proofs.step.at_due.Goals as goal
 
-pub complete_timed-case-requires-clause-sized : goal.complete_timed-case-requires-clause-sized
-complete_timed-case-requires-clause-sized c =
+pub complete_timed-answer-requires-clause-sized : goal.complete_timed-answer-requires-clause-sized
+complete_timed-answer-requires-clause-sized c =
     let net = net_of c.args.flat.now (draw_of c.args.streams.now.seed) (limits_in c.args.limits.now) in
     (subst (IsDrawn c.args.flat.now c.args.limits.now (c.args.state.count + 1)) (sym (c.fire-then.ensures.fired net))
     (fired_drawn net c.args.flat.now c.args.limits.now (c.args.state.count + 1) c.args.state (due_in c.args.due) c.requires.drawn c.requires.leaf c.if-due-limits.true)).marking
 
-pub complete_timed-case-requires-clause-rows : goal.complete_timed-case-requires-clause-rows
-complete_timed-case-requires-clause-rows c =
+pub complete_timed-answer-requires-clause-rows : goal.complete_timed-answer-requires-clause-rows
+complete_timed-answer-requires-clause-rows c =
     let net = net_of c.args.flat.now (draw_of c.args.streams.now.seed) (limits_in c.args.limits.now) in
     (subst (IsDrawn c.args.flat.now c.args.limits.now (c.args.state.count + 1)) (sym (c.fire-then.ensures.fired net))
     (fired_drawn net c.args.flat.now c.args.limits.now (c.args.state.count + 1) c.args.state (due_in c.args.due) c.requires.drawn c.requires.leaf c.if-due-limits.true)).rows
 
-pub complete_timed-case-requires-clause-number : goal.complete_timed-case-requires-clause-number
-complete_timed-case-requires-clause-number c =
+pub complete_timed-answer-requires-clause-number : goal.complete_timed-answer-requires-clause-number
+complete_timed-answer-requires-clause-number c =
     let net = net_of c.args.flat.now (draw_of c.args.streams.now.seed) (limits_in c.args.limits.now) in
     let drawn = subst (IsDrawn c.args.flat.now c.args.limits.now (c.args.state.count + 1)) (sym (c.fire-then.ensures.fired net))
     (fired_drawn net c.args.flat.now c.args.limits.now (c.args.state.count + 1) c.args.state (due_in c.args.due) c.requires.drawn c.requires.leaf c.if-due-limits.true) in
     omega (arith, counted_small c.fire-then.result.rows c.fire-then.result.count c.args.due.leaf.0 c.args.due.act drawn.cases, drawn.count, c.requires.range.events_in_range)
 
-pub complete_timed-case-requires-clause-count : goal.complete_timed-case-requires-clause-count
-complete_timed-case-requires-clause-count c =
+pub complete_timed-answer-requires-clause-count : goal.complete_timed-answer-requires-clause-count
+complete_timed-answer-requires-clause-count c =
     let net = net_of c.args.flat.now (draw_of c.args.streams.now.seed) (limits_in c.args.limits.now) in
     let drawn = subst (IsDrawn c.args.flat.now c.args.limits.now (c.args.state.count + 1)) (sym (c.fire-then.ensures.fired net))
     (fired_drawn net c.args.flat.now c.args.limits.now (c.args.state.count + 1) c.args.state (due_in c.args.due) c.requires.drawn c.requires.leaf c.if-due-limits.true) in
@@ -42,9 +41,9 @@ pub returns-then-due-limits-clause-steps : goal.returns-then-due-limits-clause-s
 returns-then-due-limits-clause-steps c = λ s same.
     let net = net_of c.args.flat.now (draw_of c.args.streams.now.seed) (limits_in c.args.limits.now) in
     let d = due_in c.args.due in
-    steps_like c.told.result c.complete_timed-case.result.1 (fire net c.fire-then.result d.leaf d.act) (at_due net s c.args.state.rows (Some d))
-    (c.told.ensures ∙ fired_told net c.args.state c.fire-then.result d c.complete_timed-case.result.0 (c.fire-then.ensures.fired net) ∙ c.complete_timed-case.ensures.told)
-    c.complete_timed-case.ensures.left
+    steps_like c.args.flat.now c.complete_timed-answer.result.0 c.complete_timed-answer.result.1 (fire net c.fire-then.result d.leaf d.act) (at_due net s c.args.state.rows (Some d))
+    c.complete_timed-answer.ensures.told
+    c.complete_timed-answer.ensures.left
     (due_fires net s c.args.state c.fire-then.result d same c.if-due-limits.true (c.fire-then.ensures.fired net))
 
 pub returns-then-due-limits-clause-running : goal.returns-then-due-limits-clause-running
@@ -58,9 +57,9 @@ returns-then-due-limits-clause-running c =
     (fired_drawn net n limits (c.args.state.count + 1) c.args.state d c.requires.drawn c.requires.leaf c.if-due-limits.true) in
     let drawn_there = subst (λ (m : ℕ). IsDrawn n limits (m + 1) c.fire-then.result) (sym count) drawn in
     let inside : d.leaf < length c.fire-then.result.rows = omega (arith, c.requires.leaf, c.requires.drawn.rows.each, drawn.rows.each) in
-    timed_runs n (draw_of c.args.streams.now.seed) limits c.fire-then.result c.complete_timed-case.result.1 d.leaf d.act drawn_there inside c.told.result
-    (c.told.ensures ∙ fired_told net c.args.state c.fire-then.result d c.complete_timed-case.result.0 (c.fire-then.ensures.fired net) ∙ c.complete_timed-case.ensures.told)
-    c.complete_timed-case.ensures.left
+    timed_runs n (draw_of c.args.streams.now.seed) limits c.fire-then.result c.complete_timed-answer.result.1 d.leaf d.act drawn_there inside c.complete_timed-answer.result.0
+    c.complete_timed-answer.ensures.told
+    c.complete_timed-answer.ensures.left
 
 pub touch-requires-clause-stable : goal.touch-requires-clause-stable
 touch-requires-clause-stable c =
@@ -69,7 +68,7 @@ touch-requires-clause-stable c =
     let u = c.fire-then.result in
     let marking = ap (λ (x : State). length x.marking) (c.fire-then.ensures.fired net) ∙ c.requires.drawn.marking in
     let stable = ap (λ (x : State). length x.stable) (c.fire-then.ensures.fired net) ∙ c.requires.drawn.marking in
-    ap length (c.deref.ensures.value ∙ ap (λ (x : State). x.stable) c.left.view_is) ∙ ap (λ (x : State). length x.stable) c.complete_timed-case.ensures.left
+    ap length (c.deref.ensures.value ∙ ap (λ (x : State). x.stable) c.left.view_is) ∙ ap (λ (x : State). length x.stable) c.complete_timed-answer.ensures.left
     ∙ (fire_sized net u c.args.due.leaf.0 c.args.due.act (length n.initial) marking stable).1
 
 pub touch-requires-clause-marking : goal.touch-requires-clause-marking
@@ -79,7 +78,7 @@ touch-requires-clause-marking c =
     let u = c.fire-then.result in
     let marking = ap (λ (x : State). length x.marking) (c.fire-then.ensures.fired net) ∙ c.requires.drawn.marking in
     let stable = ap (λ (x : State). length x.stable) (c.fire-then.ensures.fired net) ∙ c.requires.drawn.marking in
-    ap length (c.deref-then-due-limits.ensures.value ∙ ap (λ (x : State). x.marking) c.left.view_is) ∙ ap (λ (x : State). length x.marking) c.complete_timed-case.ensures.left
+    ap length (c.deref-then-due-limits.ensures.value ∙ ap (λ (x : State). x.marking) c.left.view_is) ∙ ap (λ (x : State). length x.marking) c.complete_timed-answer.ensures.left
     ∙ (fire_sized net u c.args.due.leaf.0 c.args.due.act (length n.initial) marking stable).0
 
 pub returns-then-due-limits-clause-known : goal.returns-then-due-limits-clause-known
@@ -90,10 +89,9 @@ returns-then-due-limits-clause-known c =
     let net = net_of n draw bounds in
     let d = due_in c.args.due in
     let u = c.fire-then.result in
-    let v = c.complete_timed-case.result.1 in
-    if_told c.told.result (told_by (fire net u d.leaf d.act).0) _
-    (c.told.ensures ∙ fired_told net c.args.state u d c.complete_timed-case.result.0 (c.fire-then.ensures.fired net) ∙ c.complete_timed-case.ensures.told)
+    let v = c.complete_timed-answer.result.1 in
+    if_told c.complete_timed-answer.result.0 n (fire net u d.leaf d.act).0 _ c.complete_timed-answer.ensures.told
     (λ t e. timed_known n draw bounds c.is_network.ensures.laid d.leaf d.act (omega (arith, c.requires.leaf, c.requires.drawn.rows.each)) v c.deref.result.now c.deref-then-due-limits.result.now c.fire-then.new.stale c.touch.new.stale
     (c.deref.ensures.value ∙ ap (λ (x : State). x.stable) c.left.view_is) (c.deref-then-due-limits.ensures.value ∙ ap (λ (x : State). x.marking) c.left.view_is)
     (c.fire-then.ensures.flags ∙ c.requires.flags) c.touch.ensures.own c.touch.ensures.touched
-    c.args.state d u t refl c.requires.drawn.marking (c.fire-then.ensures.fired net) c.requires.quiet c.complete_timed-case.ensures.left e)
+    c.args.state d u t refl c.requires.drawn.marking (c.fire-then.ensures.fired net) c.requires.quiet c.complete_timed-answer.ensures.left e)

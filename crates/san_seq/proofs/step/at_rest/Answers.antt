@@ -1,4 +1,4 @@
-use Rattle.std.proofs.Common.{◌∙◌, ◌≤◌, sym, ap, subst, ℕ, List, length, map, Some, Result}
+use Rattle.std.proofs.Common.{◌∙◌, ◌≤◌, refl, sym, ap, subst, ℕ, List, length, map, Some, Result}
 use Rattle.std.specs.Option.{option_map}
 use Rattle.san_base.specs.declared.ending.Trap.{Trap}
 use Rattle.san_base.specs.declared.numbers.LeafId.{LeafId}
@@ -6,17 +6,18 @@ use Rattle.san_draw.specs.Key.{draw_of}
 use Rattle.san_law.specs.Net.{Row, least_timer}
 use Rattle.san_law.specs.Renewal as law
 use Rattle.san_law.specs.State.{State}
-use Rattle.san_law.specs.Step.{Over, Stepped, Trapped, at_due, at_rest}
+use Rattle.san_law.specs.Step.{End, Stepped, Trapped, at_due, at_rest}
 use Rattle.san_net.specs.Network.{net_of}
-use Rattle.san_seq.specs.Dues.{due_in}
-use Rattle.san_seq.specs.Overs.{limits_in, over_in}
-use Rattle.san_seq.specs.Rows.{renewal_by, row_at}
-use Rattle.san_seq.specs.Running.{Steps}
-use Rattle.san_seq.specs.declared.step.Ended.{Ended}
+use Rattle.san_seq.specs.inner.Dues.{due_in}
+use Rattle.san_seq.specs.Overs.{limits_in}
+use Rattle.san_seq.specs.Telling.{ending_in}
+use Rattle.san_seq.specs.inner.Rows.{renewal_by, row_at}
+use Rattle.san_seq.specs.inner.Running.{Steps}
 use Rattle.san_seq.proofs.RangeLemmas.{due_within, rows_small}
-use Rattle.san_seq.specs.Known.{AreQuiet, HaveSame}
+use Rattle.san_seq.specs.inner.Known.{AreQuiet, HaveSame}
 use Rattle.san_seq.proofs.KnownLemmas.{are_fresh, have_same, quiet_after}
 use Rattle.san_seq.proofs.RunningLemmas.{renewed_drawn}
+use Rattle.san_seq.proofs.WithinLemmas.{fault_within}
 use Rattle.san_seq.proofs.SteppingLemmas.{ends_like}
 use Rattle.san_seq.proofs.step.at_rest.Goals as goal
 
@@ -44,8 +45,8 @@ returns-in-Some-clause-steps c =
     let least = sym (ap (λ (rs : List Row). law.least_from 0 (map least_timer rs)) was) ∙ sym c.least_due.ensures ∙ ap (option_map due_in) c.in-Some.is in
     let fresh = sym (c.renew-done.ensures.rows (limits_in c.args.limits.now)) ∙ ap (λ (r : Result (Unit {0}) (LeafId × ℕ × Trap)). renewal_by r rows) c.in-Ok.is in
     let seed = ap (λ x. x.seed) c.renew-done.ensures.streams in
-    subst (λ (x : Stepped × State). Steps c.at_due.result.0 c.at_due.result.1 x) (ap (at_due net c.args.state rows) (sym least) ∙ ap (at_rest net c.args.state) (sym fresh))
-    (subst (λ (s : ℕ). Steps c.at_due.result.0 c.at_due.result.1 (at_due (net_of c.args.flat.now (draw_of s) (limits_in c.args.limits.now)) c.args.state rows (Some (due_in c.in-Some.due)))) seed
+    subst (λ (x : Stepped × State). Steps c.args.flat.now c.at_due.result.0 c.at_due.result.1 x) (ap (at_due net c.args.state rows) (sym least) ∙ ap (at_rest net c.args.state) (sym fresh))
+    (subst (λ (s : ℕ). Steps c.args.flat.now c.at_due.result.0 c.at_due.result.1 (at_due (net_of c.args.flat.now (draw_of s) (limits_in c.args.limits.now)) c.args.state rows (Some (due_in c.in-Some.due)))) seed
     (c.at_due.ensures.steps c.args.state (sym c.renew-done.ensures.left)))
 
 pub returns-in-None-clause-steps : goal.returns-in-None-clause-steps
@@ -56,8 +57,8 @@ returns-in-None-clause-steps c =
     let least = sym (ap (λ (rs : List Row). law.least_from 0 (map least_timer rs)) was) ∙ sym c.least_due.ensures ∙ ap (option_map due_in) c.in-None.is in
     let fresh = sym (c.renew-done.ensures.rows (limits_in c.args.limits.now)) ∙ ap (λ (r : Result (Unit {0}) (LeafId × ℕ × Trap)). renewal_by r rows) c.in-Ok.is in
     let over = ap (at_rest net c.args.state) fresh ∙ ap (at_due net c.args.state rows) least in
-    ends_like c.renew-done.result.1 c.at_horizon.result (at_rest net c.args.state (law.renewed_from net c.args.state 0 c.args.state.rows))
-    (ap (λ (e : Ended). Over e.time (over_in e.over)) c.at_horizon.ensures ∙ ap (λ (x : Stepped × State). x.0) (sym over))
+    ends_like c.args.flat.now c.renew-done.result.1 _ c.args.limits.now.horizon.0 End (at_rest net c.args.state (law.renewed_from net c.args.state 0 c.args.state.rows)) refl
+    (ap (λ (x : Stepped × State). x.0) (sym over))
     (ap (λ (x : State). x.marking) c.renew-done.ensures.left ∙ ap (λ (x : Stepped × State). x.1.marking) (sym over))
 
 pub returns-in-Err-clause-steps : goal.returns-in-Err-clause-steps
@@ -65,8 +66,9 @@ returns-in-Err-clause-steps c =
     let net = net_of c.args.flat.now (draw_of c.args.streams.now.seed) (limits_in c.args.limits.now) in
     let fault = sym (c.renew-done.ensures.rows (limits_in c.args.limits.now)) ∙ ap (λ (r : Result (Unit {0}) (LeafId × ℕ × Trap)). renewal_by r c.renew-done.result.1.rows) c.in-Err.is in
     let over = ap (at_rest net c.args.state) fault in
-    ends_like c.renew-done.result.1 _ (at_rest net c.args.state (law.renewed_from net c.args.state 0 c.args.state.rows))
-    (ap (λ (x : State). Over x.time (Trapped c.in-Err.leaf.0 c.in-Err.act c.in-Err.trap)) (c.left-in-Err.view_is ∙ c.renew-done.ensures.left) ∙ ap (λ (x : Stepped × State). x.0) (sym over))
+    ends_like c.args.flat.now c.renew-done.result.1 c.trapped-ending.result c.args.state.time (Trapped c.in-Err.leaf.0 c.in-Err.act c.in-Err.trap) (at_rest net c.args.state (law.renewed_from net c.args.state 0 c.args.state.rows))
+    (c.trapped-ending.ensures ∙ ap (λ (x : State). ending_in c.args.flat.now x.time (Trapped c.in-Err.leaf.0 c.in-Err.act c.in-Err.trap)) (c.left-in-Err.view_is ∙ c.renew-done.ensures.left))
+    (ap (λ (x : Stepped × State). x.0) (sym over))
     (ap (λ (x : State). x.marking) c.renew-done.ensures.left ∙ ap (λ (x : Stepped × State). x.1.marking) (sym over))
 
 pub renew-done-requires-clause-idle : goal.renew-done-requires-clause-idle
@@ -89,3 +91,10 @@ at_due-requires-clause-quiet c =
     subst (λ (s : ℕ). AreQuiet (draw_of s) n.parts c.renew-done.result.1.marking rows) (sym seed)
     (subst (λ (m : List ℕ). AreQuiet draw n.parts m rows) (ap (λ (s : State). s.marking) (sym c.renew-done.ensures.left))
     (quiet_after n draw bounds (c.is_network.ensures.lawful draw bounds) c.args.state rows c.requires.running.rows.each fresh c.requires.settled))
+
+pub trapped-ending-requires : goal.trapped-ending-requires
+trapped-ending-requires c =
+    let draw = draw_of c.args.streams.now.seed in
+    let bounds = limits_in c.args.limits.now in
+    fault_within c.args.flat.now draw bounds c.args.state c.in-Err.leaf.0 c.in-Err.act c.in-Err.trap c.requires.running.rows.each
+    (sym (c.renew-done.ensures.rows bounds) ∙ ap (λ (r : Result (Unit {0}) (LeafId × ℕ × Trap)). renewal_by r c.renew-done.result.1.rows) c.in-Err.is)

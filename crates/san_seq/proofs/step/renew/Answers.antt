@@ -5,7 +5,7 @@ use Rattle.san_law.specs.Net.{Row}
 use Rattle.san_law.specs.Renewal.{renewed_from}
 use Rattle.san_law.specs.State.{State}
 use Rattle.san_net.specs.Network.{net_of}
-use Rattle.san_seq.specs.Rows.{AreDrawn, renewal_by}
+use Rattle.san_seq.specs.inner.Rows.{AreDrawn, renewal_by}
 use Rattle.san_seq.proofs.step.renew.Goals as goal
 
 pub returns-clause-rows : goal.returns-clause-rows

@@ -1,15 +1,14 @@
 -- What holds of a run's state between its steps, and what a step comes to.
-use Rattle.std.specs.Prelude.{ℕ, ◌≡◌, ◌≤◌, ◌<◌, List, length, Some, Result, Ok, Err, All, IfOk}
+use Rattle.std.specs.Prelude.{ℕ, ◌≡◌, ◌≤◌, ◌<◌, List, length, Some, Result, All, IfOk}
+use Rattle.san_base.specs.declared.ending.Ending.{Ending}
+use Rattle.san_base.specs.declared.ending.Event.{Event}
 use Rattle.san_base.specs.declared.limits.Limits.{Limits}
 use Rattle.san_law.specs.Net.{Row}
 use Rattle.san_law.specs.State.{State}
 use Rattle.san_law.specs.Step as law
 use Rattle.san_net.specs.Network.{Network}
-use Rattle.san_seq.specs.Overs.{over_in}
-use Rattle.san_seq.specs.Rows.{AreDrawn, AreRows, row_at}
-use Rattle.san_seq.specs.States.{Told, told_by}
-use Rattle.san_seq.specs.declared.step.Completion.{Completion}
-use Rattle.san_seq.specs.declared.step.Ended.{Ended}
+use Rattle.san_seq.specs.inner.Rows.{AreDrawn, AreRows, row_at}
+use Rattle.san_seq.specs.Telling.{told_of}
 
 -- no case draw's number is greater
 abbrev pub AreCounted : ℕ → List Row → Type 0
@@ -35,13 +34,8 @@ IsRunning n limits s = IsDrawn n limits s.count s
 abbrev pub with_rows : List Row → State → State
 with_rows rows s = record { time = s.time; marking = s.marking; stable = s.stable; rows = rows; burst = s.burst; last = s.last; count = s.count }
 
--- a completion, or when and how the run ends
-abbrev pub told_in : Result Completion Ended → Result Told (ℕ × law.Ending)
-told_in (Ok c) = Ok (record { time = c.time; leaf = c.leaf.0; act = c.act; case = c.case })
-told_in (Err e) = Err (e.time, over_in e.over)
-
 -- what is told and left is that of the law; of a run that is over the marking is left
-pub record Steps (now : Result Completion Ended) (left : State) (is : law.Stepped × State) : Type 0 where
-  pub told : told_in now ≡ told_by is.0
-  pub leaves : IfOk now (λ c. left ≡ is.1)
+pub record Steps (n : Network) (now : Result Event Ending) (left : State) (is : law.Stepped × State) : Type 0 where
+  pub told : now ≡ told_of n is.0
+  pub leaves : IfOk now (λ e. left ≡ is.1)
   pub marking : left.marking ≡ is.1.marking

@@ -6,9 +6,9 @@ use Rattle.san_law.specs.State.{State, gather}
 use Rattle.san_net.specs.Laid.{places_of}
 use Rattle.san_net.specs.Network.{Network}
 use Rattle.san_net.specs.declared.part.Part.{Part}
-use Rattle.san_seq.specs.Nexts.{first_by, first_of_part}
-use Rattle.san_seq.specs.Renewals.{renewed_part}
-use Rattle.san_seq.specs.Rows.{row_at}
+use Rattle.san_seq.specs.inner.Nexts.{first_by, first_of_part}
+use Rattle.san_seq.specs.inner.Renewals.{renewed_part}
+use Rattle.san_seq.specs.inner.Rows.{row_at}
 
 -- a leaf has the values of the last stable marking, nothing is enabled there at once, and renewal leaves its row as it is
 pub record IsIdle (draw : ℕ → ℕ → ℕ) (p : Part) (stable m : List ℕ) (r : net.Row) : Type 0 where
