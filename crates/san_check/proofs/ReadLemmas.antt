@@ -1,7 +1,7 @@
 -- What is read of activities: a table has an entry, and cases with weights are some.
 use Rattle.std.proofs.Common.{◌≡◌, ℕ, zero, suc, ◌≤◌, ◌<◌, Bool, true, false, cond, List, [], ◌∷◌, length, Result, Ok, Err, All, refl, ap, subst, arith}
 use Rattle.std.proofs.lemmas.List.Elements.{All-cons, All-nil, All-head, All-tail}
-use Rattle.san_lex.specs.declared.sign.Keyword.TheVariants as keyword
+use Rattle.san_lex.specs.declared.keyword.Keyword.TheVariants as keyword
 use Rattle.san_lex.specs.declared.sign.Mark.TheVariants as mark
 use Rattle.san_lex.specs.declared.sign.Sign.TheVariants as sign
 use Rattle.san_lex.specs.Lexer.{Word}

@@ -1,7 +1,7 @@
 -- There is one entry for each word that counts.
 use Rattle.std.proofs.Common.{◌≡◌, ℕ, suc, ◌+◌, ◌<◌, Bool, false, is_some, true≢false, List, [], ◌∷◌, ◌++◌, length, map, Option, Some, None, nat_le, refl, sym, ap, subst, ◌∙◌, arith, append_assoc, length-append}
 use Rattle.san_base.specs.declared.op.Op.TheVariants as op
-use Rattle.san_lex.specs.declared.sign.Keyword.TheVariants as keyword
+use Rattle.san_lex.specs.declared.keyword.Keyword.TheVariants as keyword
 use Rattle.san_lex.specs.declared.sign.Mark.TheVariants as mark
 use Rattle.san_lex.specs.declared.sign.Sign.{Sign}
 use Rattle.san_lex.specs.declared.sign.Sign.TheVariants as sign

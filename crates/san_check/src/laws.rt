@@ -1,15 +1,15 @@
 //! Laws of the checks: what holds of a syntax without a fault.
 
-ghost use Rattle.san_base.specs.declared.limits.TheConstants.{MAX_TEXT_BYTES};
 ghost use Rattle.std.specs.Prelude.{All, ◌≡◌, ◌<◌, ◌≤◌, ℕ, List, None, Some, Ok, length};
+ghost use Rattle.san_base.specs.declared.limits.TheConstants.{MAX_TEXT_BYTES};
 ghost use Rattle.san_text.specs.declared.text.Parsed.{Parsed};
-ghost use Rattle.san_check.specs.declared.walk.Fault.{Fault};
 ghost use Rattle.san_text.specs.declared.syntax.Syntax.{Syntax};
 ghost use Rattle.san_tree.specs.Places.{node_at, Keeps, SharesApart};
 ghost use Rattle.san_text.specs.Texts.{parsed, words_of};
+ghost use Rattle.san_net.specs.Accepted.{IsAccepted};
+ghost use Rattle.san_check.specs.declared.walk.Fault.{Fault};
 ghost use Rattle.san_check.specs.walk.Model.{syntax_entries, syntax_fault};
 ghost use Rattle.san_check.specs.build.Composition.{nodes_of, shown_of};
-ghost use Rattle.san_net.specs.Accepted.{IsAccepted};
 ghost use Rattle.san_check.specs.Formed.{IsFormed};
 ghost use Rattle.san_check.specs.build.Atomic.{atomics_of};
 

@@ -21,7 +21,7 @@ pub use effect::{count_of, run_stmts};
 pub use expr::Expr;
 pub use laws::{evaluations_assign_nothing, mentioned_cells_decide, whole_views_have_one_marking};
 pub use marking::Marking;
-pub use mention::{dist_mentions, mentions, stmts_mention};
+pub use mention::mentions;
 pub use san_base::{Boxed, Items, Op, Trap};
 pub use stmt::{Stmt, same_stmts};
 pub use value::eval;

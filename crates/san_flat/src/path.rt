@@ -80,7 +80,11 @@ fn path_of(alloc: Global, model: &Model, path: &[u32]) -> Result<Path, NoMemory>
 }
 
 /// The paths of the leaves.
-pub(crate) fn paths_of(alloc: Global, model: &Model, leaves: &[Instance]) -> Result<Vec<Path>, NoMemory>
+pub(crate) fn paths_of(
+    alloc: Global,
+    model: &Model,
+    leaves: &[Instance],
+) -> Result<Vec<Path>, NoMemory>
     ensures { IfOk result (λ paths. paths.items ≡ map (λ leaf. path_text model.now.system
         model.now.tree.nodes model.now.tree.root leaf.path) leaves.now) }
 {

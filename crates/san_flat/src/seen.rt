@@ -88,7 +88,11 @@ fn see_leaf(
 
 /// The cells of all leaves are seen, in order, or none where a network has fewer places than there
 /// are homes.
-pub(crate) fn see_all(alloc: Global, model: &Model, leaves: &[Instance]) -> Result<Option<Seen>, NoMemory>
+pub(crate) fn see_all(
+    alloc: Global,
+    model: &Model,
+    leaves: &[Instance],
+) -> Result<Option<Seen>, NoMemory>
     requires short { All (IsWithin MAX_PATH) leaves.now }
     requires even { All (IsEven model.now) leaves.now }
     ensures { IfOk result (λ seen. SeesAll seen (homes_from model.now leaves.now) (values_from

@@ -2,7 +2,7 @@
 use Rattle.std.proofs.Common.{◌≡◌, ℕ, suc, ◌-◌, ◌<◌, ◌≤◌, Bool, true, false, cond, ◌&&◌, List, [], ◌∷◌, length, take, drop, Some, None, refl, sym, ap, ◌∙◌, arith}
 use Rattle.std.proofs.lemmas.Bool.Decides.{nat_tests}
 use Rattle.std.specs.Str.Parse.{digits_value}
-use Rattle.san_lex.specs.declared.sign.Keyword.{Keyword}
+use Rattle.san_lex.specs.declared.keyword.Keyword.{Keyword}
 use Rattle.san_lex.specs.declared.sign.Sign.TheVariants as sign
 use Rattle.san_lex.specs.declared.token.Kind.TheVariants as kind
 use Rattle.san_lex.specs.declared.piece.Piece.TheVariants as piece

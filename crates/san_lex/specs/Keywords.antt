@@ -2,8 +2,8 @@
 use Rattle.std.specs.Prelude.{ℕ, List, Option, codes, bytes_eq}
 use Rattle.std.specs.List.{find}
 use Rattle.san_lex.specs.declared.keyword.TheConstants.{KEYWORDS}
-use Rattle.san_lex.specs.declared.sign.Keyword.{Keyword}
-use Rattle.san_lex.specs.declared.sign.Keyword.TheVariants as keyword
+use Rattle.san_lex.specs.declared.keyword.Keyword.{Keyword}
+use Rattle.san_lex.specs.declared.keyword.Keyword.TheVariants as keyword
 
 abbrev pub keyword_text : Keyword → List ℕ
 keyword_text keyword.San = codes "san"

@@ -3,7 +3,41 @@
 ghost use Rattle.std.specs.Prelude.{◌≡◌};
 ghost use Rattle.san_lex.specs.Keywords.{keyword_text, keyword_of};
 
-use crate::sign::Keyword;
+/// The keywords.
+#[derive(Clone, Copy, Debug, PartialEq, Eq)]
+pub enum Keyword {
+    San,
+    Atomic,
+    Place,
+    Timed,
+    Instant,
+    In,
+    Gate,
+    Do,
+    Delay,
+    Det,
+    Uniform,
+    Geom,
+    Table,
+    React,
+    Case,
+    Out,
+    If,
+    Else,
+    Join,
+    Child,
+    Share,
+    Rep,
+    Times,
+    System,
+    Reward,
+    On,
+    Over,
+    Mean,
+    At,
+    Rate,
+    Impulse,
+}
 
 /// All keywords.
 pub(crate) const KEYWORDS: [Keyword; 31] = [

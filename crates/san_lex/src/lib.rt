@@ -10,10 +10,11 @@ mod sign;
 mod token;
 
 pub use byte::MAX_NUMBER;
+pub use keyword::Keyword;
 pub use laws::{read_words_can_be_written, written_words_are_read};
 pub use lexer::tokens;
 pub use san_base::Op;
-pub use sign::{Keyword, Mark, Sign};
+pub use sign::{Mark, Sign};
 pub use token::{Kind, LexFault, Token, Tokens};
 
 #[cfg(test)]

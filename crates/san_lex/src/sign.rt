@@ -3,43 +3,8 @@
 ghost use Rattle.std.specs.Prelude.{◌≡◌};
 ghost use Rattle.san_lex.specs.Layout.{mark_text, op_text, sign_text};
 
+use crate::keyword::Keyword;
 use san_base::Op;
-
-/// The keywords.
-#[derive(Clone, Copy, Debug, PartialEq, Eq)]
-pub enum Keyword {
-    San,
-    Atomic,
-    Place,
-    Timed,
-    Instant,
-    In,
-    Gate,
-    Do,
-    Delay,
-    Det,
-    Uniform,
-    Geom,
-    Table,
-    React,
-    Case,
-    Out,
-    If,
-    Else,
-    Join,
-    Child,
-    Share,
-    Rep,
-    Times,
-    System,
-    Reward,
-    On,
-    Over,
-    Mean,
-    At,
-    Rate,
-    Impulse,
-}
 
 /// The marks.
 #[derive(Clone, Copy, Debug, PartialEq, Eq)]

@@ -1,7 +1,7 @@
 -- Inputs, outputs and cases.
 use Rattle.std.proofs.Common.{◌≡◌, ℕ, Bool, true, false, cond, List, [], ◌∷◌, ◌++◌, length, Result, Ok, refl, sym, ap, subst, ◌∙◌}
 use Rattle.std.proofs.lemmas.List.{append-nil}
-use Rattle.san_lex.specs.declared.sign.Keyword.TheVariants as keyword
+use Rattle.san_lex.specs.declared.keyword.Keyword.TheVariants as keyword
 use Rattle.san_lex.specs.declared.sign.Mark.TheVariants as mark
 use Rattle.san_lex.specs.declared.sign.Sign.TheVariants as sign
 use Rattle.san_lex.specs.Lexer.{Word, Fixed}

@@ -1,8 +1,8 @@
 -- The rules of statements, places and activities look no further than the first word that isn't legal.
 use Rattle.std.proofs.Common.{◌≡◌, ℕ, zero, suc, ◌<◌, ◌≤◌, Bool, true, false, cond, ◌&&◌, List, [], ◌∷◌, length, Ok, Err, Option, Some, None, refl, ap, arith}
 use Rattle.std.specs.Prelude.{codes}
-use Rattle.san_lex.specs.declared.sign.Keyword.{Keyword}
-use Rattle.san_lex.specs.declared.sign.Keyword.TheVariants as keyword
+use Rattle.san_lex.specs.declared.keyword.Keyword.{Keyword}
+use Rattle.san_lex.specs.declared.keyword.Keyword.TheVariants as keyword
 use Rattle.san_lex.specs.declared.sign.Mark.TheVariants as mark
 use Rattle.san_lex.specs.declared.sign.Sign.{Sign}
 use Rattle.san_lex.specs.declared.sign.Sign.TheVariants as sign

@@ -1,7 +1,7 @@
 -- The rules of models, rewards and the head look no further than the first word that isn't legal.
 use Rattle.std.proofs.Common.{ℕ, cond, ◌&&◌, List, length, Ok, Err, Option, Some, None, refl}
 use Rattle.std.specs.Prelude.{nat_le}
-use Rattle.san_lex.specs.declared.sign.Keyword.TheVariants as keyword
+use Rattle.san_lex.specs.declared.keyword.Keyword.TheVariants as keyword
 use Rattle.san_lex.specs.declared.sign.Mark.TheVariants as mark
 use Rattle.san_lex.specs.declared.sign.Sign.TheVariants as sign
 use Rattle.san_text.specs.declared.syntax.ModelDecl.TheVariants as model

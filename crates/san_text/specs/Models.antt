@@ -1,6 +1,6 @@
 -- Models, rewards, and the whole text.
 use Rattle.std.specs.Prelude.{ℕ, Bool, cond, ◌&&◌, ◌||◌, nat_eq, nat_le, List, [], ◌∷◌, length, Result, Ok, Err}
-use Rattle.san_lex.specs.declared.sign.Keyword.TheVariants as keyword
+use Rattle.san_lex.specs.declared.keyword.Keyword.TheVariants as keyword
 use Rattle.san_lex.specs.declared.sign.Mark.TheVariants as mark
 use Rattle.san_lex.specs.Lexer.{Word}
 use Rattle.san_text.specs.declared.syntax.Syntax.{Syntax}

@@ -1,7 +1,7 @@
 -- The words that spell expressions and statements.
 use Rattle.std.specs.Prelude.{List, [], ◌∷◌, ◌++◌, map}
 use Rattle.san_base.specs.declared.op.Op.TheVariants as op
-use Rattle.san_lex.specs.declared.sign.Keyword.TheVariants as keyword
+use Rattle.san_lex.specs.declared.keyword.Keyword.TheVariants as keyword
 use Rattle.san_lex.specs.declared.sign.Mark.TheVariants as mark
 use Rattle.san_lex.specs.declared.sign.Sign.TheVariants as sign
 use Rattle.san_lex.specs.Lexer.{Word, Number, Name, Fixed}

@@ -1,6 +1,6 @@
 -- The steps of reading, and their faults.
 use Rattle.std.specs.Prelude.{ℕ, zero, suc, Bool, cond, List, [], ◌∷◌, ◌++◌, length, Result, Ok, Err, Option, Some, None}
-use Rattle.san_lex.specs.declared.sign.Keyword.{Keyword}
+use Rattle.san_lex.specs.declared.keyword.Keyword.{Keyword}
 use Rattle.san_lex.specs.declared.sign.Mark.{Mark}
 use Rattle.san_lex.specs.declared.sign.Sign.{Sign}
 use Rattle.san_lex.specs.declared.sign.Sign.TheVariants as sign

@@ -1,7 +1,7 @@
 -- What a whole text parses to, and where its faults stand.
 use Rattle.std.specs.Prelude.{ℕ, suc, ◌-◌, ◌≡◌, Bool, true, false, cond, nat_eq, List, [], ◌∷◌, length, map, take, drop, Result, Ok, Err}
-use Rattle.san_lex.specs.declared.sign.Keyword.{Keyword}
-use Rattle.san_lex.specs.declared.sign.Keyword.TheVariants as keyword
+use Rattle.san_lex.specs.declared.keyword.Keyword.{Keyword}
+use Rattle.san_lex.specs.declared.keyword.Keyword.TheVariants as keyword
 use Rattle.san_lex.specs.declared.sign.Sign.{Sign}
 use Rattle.san_lex.specs.declared.sign.Sign.TheVariants as sign
 use Rattle.san_lex.specs.Lexer.{Word, Number, Name, Fixed, Located, tokens, word_of}

@@ -1,7 +1,7 @@
 //! Laws of the grammar: what is spelled is read again, and a text is refused at its first fault.
 
 ghost use Rattle.std.specs.Prelude.{◌≡◌, ◌++◌, ℕ, suc, false, List, ◌∷◌, Ok, Err, map, length};
-ghost use Rattle.san_lex.specs.declared.sign.Keyword.TheVariants.{Else};
+ghost use Rattle.san_lex.specs.declared.keyword.Keyword.TheVariants.{Else};
 ghost use Rattle.san_lex.specs.Lexer.{Word, Located, tokens, word_of};
 ghost use Rattle.san_lex.specs.Words.{said};
 ghost use Rattle.san_text.specs.declared.syntax.Ast.{Ast};

@@ -1,7 +1,7 @@
 //! The grammar of atomics, joins and replicates.
 
 ghost use Rattle.std.specs.Prelude.{◌≡◌};
-ghost use Rattle.san_lex.specs.declared.sign.Keyword.TheVariants.{Child as ChildKey, Share as ShareKey};
+ghost use Rattle.san_lex.specs.declared.keyword.Keyword.TheVariants.{Child as ChildKey, Share as ShareKey};
 ghost use Rattle.san_lex.specs.declared.sign.Mark.TheVariants.{Comma as CommaMark};
 ghost use Rattle.san_text.specs.Steps.{next_mark, next_keyword};
 ghost use Rattle.san_text.specs.Models.{atomic_at, child_at, part_at, more_part, parts_at, share_at, join_at, shown_at, copied_at, times_at, rep_at, model_at, starts_model};

@@ -1,7 +1,7 @@
 //! The grammar of output arcs, output gates and cases.
 
 ghost use Rattle.std.specs.Prelude.{◌≡◌};
-ghost use Rattle.san_lex.specs.declared.sign.Keyword.TheVariants.{Case as CaseKey};
+ghost use Rattle.san_lex.specs.declared.keyword.Keyword.TheVariants.{Case as CaseKey};
 ghost use Rattle.san_text.specs.Steps.{next_keyword};
 ghost use Rattle.san_text.specs.Activities.{output_arc, body_at, output_at, starts_output, case_at, weighted_at, plain_at, cases_at};
 ghost use Rattle.san_text.specs.inner.Answers.{Gives};

@@ -1,7 +1,7 @@
 //! The grammar of places.
 
 ghost use Rattle.std.specs.Prelude.{◌≡◌};
-ghost use Rattle.san_lex.specs.declared.sign.Keyword.TheVariants.{Place as PlaceKey};
+ghost use Rattle.san_lex.specs.declared.keyword.Keyword.TheVariants.{Place as PlaceKey};
 ghost use Rattle.san_text.specs.Steps.{next_keyword};
 ghost use Rattle.san_text.specs.Activities.{length_at, initial_at, place_at};
 ghost use Rattle.san_text.specs.inner.Answers.{Gives};

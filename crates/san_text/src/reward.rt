@@ -1,7 +1,7 @@
 //! The grammar of rewards.
 
 ghost use Rattle.std.specs.Prelude.{◌≡◌};
-ghost use Rattle.san_lex.specs.declared.sign.Keyword.TheVariants.{Reward as RewardKey};
+ghost use Rattle.san_lex.specs.declared.keyword.Keyword.TheVariants.{Reward as RewardKey};
 ghost use Rattle.san_text.specs.Steps.{next_keyword};
 ghost use Rattle.san_text.specs.Models.{bounds_at, over_at, mean_at, tick_at, span_at, rate_at, impulse_at, term_at, starts_term, measured_at, reward_at};
 ghost use Rattle.san_text.specs.inner.Answers.{Gives};

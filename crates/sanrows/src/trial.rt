@@ -259,26 +259,44 @@ fn text_of(alloc: Global, row: &Row<'_>) -> Result<Vec<u8>, NoMemory> {
     Ok(text)
 }
 
+/// What a row's calls must come to; none where its status is no number.
+fn wanted<'a>(row: &Row<'a>) -> Option<Wanted<'a>> {
+    let begins = row.value("begins").is_some();
+    let notes = if begins {
+        row.notes.strip_suffix("\n").unwrap_or(row.notes)
+    } else {
+        row.notes
+    };
+    Some(Wanted {
+        status: row.value("status").unwrap_or("0").parse::<u8>().ok()?,
+        output: row.output.as_bytes(),
+        ends: row.value("ends").is_some(),
+        notes: notes.as_bytes(),
+        begins,
+    })
+}
+
+/// A row's trial; none where a setting can't be read.
+fn trial<'a>(alloc: Global, row: &Row<'a>) -> Result<Option<Trial<'a>>, NoMemory> {
+    let lists = Lists::read(alloc, row)?;
+    match (are_known(row), wanted(row), lists) {
+        (true, Some(wanted), Some(lists)) => Ok(Some(Trial {
+            wanted,
+            lists,
+            first: None,
+        })),
+        _ => Ok(None),
+    }
+}
+
 /// What of a row doesn't come true.
 pub(crate) fn fault_of(alloc: Global, row: &Row<'_>) -> Result<Option<Fault>, NoMemory> {
-    let status = row.value("status").unwrap_or("0").parse::<u8>();
-    let (true, Ok(status), Some(lists)) = (are_known(row), status, Lists::read(alloc, row)?) else {
+    let Some(mut trial) = trial(alloc, row)? else {
         return Ok(Some("has a setting that can't be read"));
     };
     if row.value("calls").is_none() {
         return Ok(Some("names no call"));
     }
-    let mut trial = Trial {
-        wanted: Wanted {
-            status,
-            output: row.output.as_bytes(),
-            ends: row.value("ends").is_some(),
-            notes: row.notes.as_bytes(),
-            begins: row.value("begins").is_some(),
-        },
-        lists,
-        first: None,
-    };
     let text = text_of(alloc, row)?;
     if trial.lists.prefixes.is_empty() {
         return trial.fault_by_calls(alloc, row, text.as_slice());

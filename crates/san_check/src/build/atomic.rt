@@ -1,9 +1,8 @@
 //! Atomics with their terms of the rewards.
 
+ghost use Rattle.std.specs.Prelude.{◌≡◌, ◌≤◌, ◌++◌, [], length, IfOk, OnOk, All, None};
 ghost use Rattle.san_check.specs.declared.limits.TheConstants.{MAX_OWN_ACTS};
-ghost use Rattle.std.specs.Prelude.{◌≡◌, ◌≤◌, ◌++◌, [], length, IfOk, OnOk};
 ghost use Rattle.san_check.specs.walk.Atomic.{all_acts};
-ghost use Rattle.std.specs.Prelude.{All, None};
 ghost use Rattle.san_check.specs.walk.Model.{syntax_fault};
 ghost use Rattle.san_check.specs.build.Atomic.{atomic_over, atomic_of, atomic_in, atomics_from, atomics_of};
 ghost use Rattle.san_check.specs.inner.Models.{HasFewActs};

@@ -8,8 +8,8 @@ ghost use Rattle.san_check.specs.build.Composition.{capped, number, part_numbers
 use crate::build::cells::capped;
 use crate::known::{Known, known_as};
 use crate::place::Place;
-use crate::table::Table;
-use crate::walk::composition::{Children, children_of};
+use crate::table::{Index, Table};
+use crate::walk::composition::Children;
 use san_base::{Items, Name, NoMemory};
 use san_text::{ChildDecl, ModelDecl, ShareDecl};
 use san_tree::{Node, Share};
@@ -19,6 +19,24 @@ fn copied(alloc: Global, name: &Name) -> Result<Name, NoMemory>
     ensures { IfOk result (λ copy. copy ≡ name.now) }
 {
     Name::new(alloc, name.as_bytes())
+}
+
+/// The children of a join, with the places that their models show.
+fn children_of<'a, 'b>(
+    alloc: Global,
+    models: &'b Table<'a, Known<'a>>,
+    none: &'b Known<'a>,
+    decls: &'a [ChildDecl],
+) -> Result<Children<'a, 'b>, NoMemory>
+    requires { none.now ≡ nothing }
+    ensures { IfOk result (λ children. children ≡ all_children models.now [] decls.now) }
+{
+    let mut children = Index::new(alloc);
+    'children: for decl in decls {
+        let known = known_as(models, none, &decl.of);
+        children.declare(decl.name.as_bytes(), &known.places)?;
+    }
+    Ok(children)
 }
 
 /// The child and the place of a part.

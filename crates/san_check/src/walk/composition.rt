@@ -63,24 +63,6 @@ pub(crate) fn walk_children<'a, 'b>(
     Ok(children)
 }
 
-/// The children of a join, with the places that their models show.
-pub(crate) fn children_of<'a, 'b>(
-    alloc: Global,
-    models: &'b Table<'a, Known<'a>>,
-    none: &'b Known<'a>,
-    decls: &'a [ChildDecl],
-) -> Result<Children<'a, 'b>, NoMemory>
-    requires { none.now ≡ nothing }
-    ensures { IfOk result (λ children. children ≡ all_children models.now [] decls.now) }
-{
-    let mut children = Index::new(alloc);
-    'children: for decl in decls {
-        let known = known_as(models, none, &decl.of);
-        children.declare(decl.name.as_bytes(), &known.places)?;
-    }
-    Ok(children)
-}
-
 /// The place that a part of a share names.
 fn part_place<'a, 'b>(children: &Children<'a, 'b>, part: &'a (Name, Name)) -> Option<Place>
     ensures { result ≡ part_place children.now part.now }

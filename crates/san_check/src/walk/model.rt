@@ -1,13 +1,11 @@
 //! The words of models and of a whole text.
 
+ghost use Rattle.std.specs.Prelude.{◌≡◌, [], IfOk, OnOk, ◌++◌, ◌∷◌, true, false};
+ghost use Rattle.std.specs.Option.{option_map};
 ghost use Rattle.san_check.specs.declared.codes.TheConstants.{COPIES};
 ghost use Rattle.san_check.specs.declared.limits.TheConstants.{MAX_COPIES};
-ghost use Rattle.std.specs.Prelude.{◌≡◌, [], IfOk, OnOk};
-ghost use Rattle.std.specs.Option.{option_map};
-ghost use Rattle.san_check.specs.walk.Entries.{told};
+ghost use Rattle.san_check.specs.walk.Entries.{told, code};
 ghost use Rattle.san_check.specs.inner.Walks.{seen_all};
-ghost use Rattle.std.specs.Prelude.{◌++◌, ◌∷◌, true, false};
-ghost use Rattle.san_check.specs.walk.Entries.{code};
 ghost use Rattle.san_check.specs.walk.Activity.{is_outside};
 ghost use Rattle.san_check.specs.walk.Atomic.{places_entries, all_places, acts_entries, all_acts};
 ghost use Rattle.san_check.specs.walk.Composition.{name_code, name_of, model_code, model_entries, known_of, models_entries, all_models, nothing, children_entries, all_children, shares_entries, all_shares, shown_entries, all_shown, shown_by};

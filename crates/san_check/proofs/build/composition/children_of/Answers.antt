@@ -3,7 +3,7 @@ use Rattle.san_check.specs.declared.known.Known.{Known}
 use Rattle.san_check.specs.Tables.{declared}
 use Rattle.san_check.specs.walk.Composition.{with_child, all_children}
 use Rattle.san_check.proofs.LoopLemmas.{all_turn}
-use Rattle.san_check.proofs.walk.composition.children_of.Goals as goal
+use Rattle.san_check.proofs.build.composition.children_of.Goals as goal
 
 pub children-preserved : goal.children-preserved
 children-preserved c =
