@@ -1,20 +1,79 @@
 //! The completion of a leaf's activity over the marking.
 
-ghost use Rattle.std.specs.Prelude.{◌≡◌, ◌≤◌, ◌<◌, ◌+◌, ◌*◌, ◌^◌, ℕ, length, slice_get, slice_index, Some, IfErr};
+ghost use Rattle.std.specs.Prelude.{IfErr, Some, length, map, slice_get, slice_index, ℕ, ◌*◌, ◌+◌, ◌<◌, ◌^◌, ◌≡◌, ◌≤◌};
 ghost use Rattle.san_draw.specs.Key.{draw_of};
+ghost use Rattle.san_expr.specs.View.{Reads, Sight, assigned};
 ghost use Rattle.san_law.specs.Network.{Limits};
 ghost use Rattle.san_net.specs.Accepted.{IsAccepted};
 ghost use Rattle.san_net.specs.Cells.{IsOver};
-ghost use Rattle.san_net.specs.Laid.{acts_of, places_of};
+ghost use Rattle.san_net.specs.Laid.{acts_of, place_of, places_of};
 ghost use Rattle.san_net.specs.declared.part.Part.{Part};
 ghost use Rattle.san_seq.specs.inner.Completions.{completed_by, leaf_told, part_told};
 ghost use Rattle.san_seq.specs.inner.Rows.{IsRowOf};
+ghost use Rattle.san_seq.specs.inner.Views.{sight_of};
 
-use crate::view::LeafView;
 use san_base::{LeafId, MAX_ACTS, MAX_CELLS, Trap};
 use san_clock::{Row, complete_act};
 use san_draw::Streams;
-use san_net::{Flat, Part, gather, scatter};
+use san_expr::{Cells, Marked};
+use san_net::{Flat, Part, Slot, gather, scatter};
+use std::marker::Model;
+
+/// A leaf's cells in a marking of the whole network, which the view holds and gives back.
+#[derive(Debug, Drop)]
+pub(crate) struct LeafView<'a> {
+    slots: &'a [Slot],
+    marking: Vec<u32>,
+}
+
+impl<'a> Model for LeafView<'a> {
+    ghost use Rattle.std.specs.Prelude.{map};
+    ghost use Rattle.san_net.specs.Laid.{place_of};
+    ghost use Rattle.san_net.specs.Cells.{IsOver};
+    ghost use Rattle.san_seq.specs.inner.Views.{Seen};
+
+    ghost Value = { Seen };
+
+    ghost view = { λ v. record { places = map place_of v.slots.now; marking = v.marking.items } };
+
+    ghost invariant = { λ v. IsOver (map place_of v.slots.now) v.marking.items };
+}
+
+impl<'a> LeafView<'a> {
+    /// The view of these slots.
+    pub(crate) fn new(slots: &'a [Slot], marking: Vec<u32>) -> LeafView<'a>
+        requires { IsOver (map place_of slots.now) marking.items }
+        ensures places { result.places ≡ map place_of slots.now }
+        ensures marking { result.marking ≡ marking.items }
+    {
+        LeafView { slots, marking }
+    }
+
+    /// The marking, with what was assigned.
+    pub(crate) fn into_marking(self) -> Vec<u32>
+        ensures { result.items ≡ self.entry.marking }
+    {
+        self.marking
+    }
+}
+
+impl<'a> Marked for LeafView<'a> {
+    ghost sight = { sight_of };
+
+    fn read(&mut self, place: u32) -> u32 {
+        let slots = self.slots;
+        let at = slots[place as usize].place().0;
+        self.marking[at as usize]
+    }
+}
+
+impl<'a> Cells for LeafView<'a> {
+    fn set(&mut self, place: u32, value: u32) {
+        let slots = self.slots;
+        let at = slots[place as usize].place().0;
+        self.marking[at as usize] = value;
+    }
+}
 
 /// Completes an activity of a leaf over the marking with its next case draw: its case, and the
 /// marking that it leaves. A trap leaves the marking and the row as they were.

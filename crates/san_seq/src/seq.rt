@@ -1,27 +1,55 @@
 //! The sequential run of a network.
 
-ghost use Rattle.std.specs.Prelude.{◌≡◌, ℕ, IfOk, Some};
+ghost use Rattle.std.specs.Prelude.{IfOk, Some, ℕ, ◌≡◌};
 ghost use Rattle.san_base.specs.Limits.{IsInRange};
 ghost use Rattle.san_draw.specs.Key.{draw_of};
 ghost use Rattle.san_net.specs.Network.{net_of};
 ghost use Rattle.san_seq.specs.FlatRun as run;
-ghost use Rattle.san_seq.specs.inner.Held as held;
-ghost use Rattle.san_seq.specs.inner.Nexts.{next_in};
 ghost use Rattle.san_seq.specs.Overs.{limits_in};
 ghost use Rattle.san_seq.specs.Telling.{stepped_of};
+ghost use Rattle.san_seq.specs.inner.Held as held;
+ghost use Rattle.san_seq.specs.inner.Nexts.{next_in};
+ghost use Rattle.san_seq.specs.inner.Openings.{rows_of};
 
 use crate::next::Next;
-use crate::opening::{blanks, tables};
 use crate::state::State;
 use crate::step::{next_of, step};
 use crate::steps::{Stable, Stepped, Trajectory};
-use san_base::{Ending, Event, Items, Limits, NoMemory, Tick};
+use san_base::{Ending, Event, Items, LeafId, Limits, NoMemory, Tick};
+use san_clock::Row;
 use san_delay::DelayTables;
 use san_draw::Streams;
-use san_net::Flat;
+use san_expr::Dist;
+use san_net::{ActKind, Flat};
 use san_winner::Flags;
 use std::alloc::Global;
 use std::marker::Model;
+
+/// The rows of all leaves before the first step.
+pub(crate) fn blanks(alloc: Global, flat: &Flat) -> Result<Vec<Row>, NoMemory>
+    ensures { IfOk result (λ rows. rows.items ≡ rows_of flat.now.parts) }
+{
+    let mut rows = Vec::with_capacity(alloc, flat.leaves() as usize)?;
+    'leaves: for j in 0..flat.leaves() {
+        let part = flat.part(LeafId(j)).get();
+        rows.push(Row::blank(alloc, part.atomic.get().acts.len())?)?;
+    }
+    Ok(rows)
+}
+
+/// The tables of all delays.
+pub(crate) fn tables(alloc: Global, flat: &Flat) -> Result<DelayTables, NoMemory> {
+    let mut delays: Vec<&Dist> = Vec::new(alloc);
+    'leaves: for j in 0..flat.leaves() {
+        let atomic = flat.part(LeafId(j)).get().atomic.get();
+        'acts: for act in atomic.acts.as_slice() {
+            if let ActKind::Timed { delay, .. } = &act.1.kind {
+                delays.push(delay)?;
+            }
+        }
+    }
+    DelayTables::open(alloc, &delays)
+}
 
 /// Where a run is: it goes on from a state, or is over with the marking that it left.
 #[derive(Drop)]

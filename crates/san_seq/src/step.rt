@@ -18,13 +18,11 @@ ghost use Rattle.san_seq.specs.Overs.{limits_in};
 ghost use Rattle.san_seq.specs.inner.Rows.{AreDrawn, AreRows, IsLike, renewal_by, row_at};
 ghost use Rattle.san_seq.specs.inner.Running.{IsDrawn, IsRunning, Steps, with_rows};
 
-use crate::due::{Due, least_due};
-use crate::fire::fire;
-use crate::limits::{complete_instant, complete_timed};
+use crate::due::{Due, fire, least_due};
 use crate::next::{Next, next_instant};
 use crate::renewal::{Markings, renew_rows};
 use crate::stale::touch;
-use crate::state::{State, trapped};
+use crate::state::{State, complete_instant, complete_timed, trapped};
 use san_base::{Ending, Event, LeafId, Limits, Trap};
 use san_delay::DelayTables;
 use san_draw::Streams;

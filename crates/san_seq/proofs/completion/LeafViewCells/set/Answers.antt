@@ -1,6 +1,6 @@
 use Rattle.std.proofs.Common.{arith, refl}
 use Rattle.san_seq.proofs.ViewLemmas.{sets_there, within}
-use Rattle.san_seq.proofs.view.LeafViewCells.set.Goals as goal
+use Rattle.san_seq.proofs.completion.LeafViewCells.set.Goals as goal
 
 pub index_mut-requires : goal.index_mut-requires
 index_mut-requires c =

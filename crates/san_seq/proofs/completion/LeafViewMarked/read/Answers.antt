@@ -1,7 +1,7 @@
 use Rattle.std.proofs.Common.{◌∙◌, arith}
 use Rattle.std.proofs.lemmas.Grind.{get_or_default_zero}
 use Rattle.san_seq.proofs.ViewLemmas.{reads_there, within}
-use Rattle.san_seq.proofs.view.LeafViewMarked.read.Goals as goal
+use Rattle.san_seq.proofs.completion.LeafViewMarked.read.Goals as goal
 
 pub index-requires : goal.index-requires
 index-requires c =

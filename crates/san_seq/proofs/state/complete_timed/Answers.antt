@@ -8,7 +8,7 @@ use Rattle.san_seq.specs.inner.States.{complete_in}
 use Rattle.san_seq.specs.Telling.{ending_in, told_of}
 use Rattle.san_seq.proofs.LimitLemmas.{timed_is}
 use Rattle.san_seq.proofs.ToldLemmas.{no_limit, stopped}
-use Rattle.san_seq.proofs.limits.complete_timed.Goals as goal
+use Rattle.san_seq.proofs.state.complete_timed.Goals as goal
 
 pub returns-in-None-clause-told : goal.returns-in-None-clause-told
 returns-in-None-clause-told c =
