@@ -4,6 +4,7 @@
 
 mod account;
 mod cells;
+mod counted;
 mod impulses;
 mod rates;
 mod run;
