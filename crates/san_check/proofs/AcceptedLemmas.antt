@@ -17,19 +17,20 @@ use Rattle.san_net.specs.Instants.{Named}
 use Rattle.san_net.specs.Names.{is_name}
 use Rattle.san_net.specs.declared.atomic.RateTerm.{RateTerm}
 use Rattle.san_net.specs.declared.atomic.ImpulseTerm.{ImpulseTerm}
-use Rattle.san_check.specs.declared.models.Known.{Known}
+use Rattle.san_check.specs.declared.known.Known.{Known}
 use Rattle.san_check.specs.Tables.{found, is_known, declared}
-use Rattle.san_check.specs.Entries.{code}
-use Rattle.san_check.specs.Expressions.{Places}
-use Rattle.san_check.specs.Activities.{Acts, act_code, act_entries}
-use Rattle.san_check.specs.Atomics.{places_entries, all_places, acts_entries, all_acts}
-use Rattle.san_check.specs.Compositions.{Models, nothing, known_as, name_code, name_of, model_entries, known_of, with_model, models_entries, all_models, model_code}
-use Rattle.san_check.specs.Rewards.{rewards_entries}
-use Rattle.san_check.specs.Texts.{syntax_entries, syntax_fault}
-use Rattle.san_check.specs.Cells.{CellTable, all_cells, all_values}
-use Rattle.san_check.specs.Actions.{act_of}
-use Rattle.san_check.specs.Terms.{all_rates, all_impulses}
-use Rattle.san_check.specs.Nets.{HasFewActs, acts_of, atomic_of, atomic_in, atomics_from, atomics_of}
+use Rattle.san_check.specs.walk.Entries.{code}
+use Rattle.san_check.specs.walk.Expression.{Places}
+use Rattle.san_check.specs.walk.Activity.{Acts, act_code, act_entries}
+use Rattle.san_check.specs.walk.Atomic.{places_entries, all_places, acts_entries, all_acts}
+use Rattle.san_check.specs.walk.Composition.{Models, nothing, known_as, name_code, name_of, model_entries, known_of, with_model, models_entries, all_models, model_code}
+use Rattle.san_check.specs.walk.Reward.{rewards_entries}
+use Rattle.san_check.specs.walk.Model.{syntax_entries, syntax_fault}
+use Rattle.san_check.specs.build.Cells.{CellTable, all_cells, all_values}
+use Rattle.san_check.specs.build.Activity.{act_of}
+use Rattle.san_check.specs.build.Term.{all_rates, all_impulses}
+use Rattle.san_check.specs.build.Atomic.{acts_of, atomic_of, atomic_in, atomics_from, atomics_of}
+use Rattle.san_check.specs.inner.Models.{HasFewActs}
 use Rattle.san_check.specs.Formed.{IsFormedAct, IsFormedModel, IsFormed}
 use Rattle.san_check.proofs.TableLemmas.{declared_last}
 use Rattle.san_check.proofs.NumberLemmas.{found_front, known_itself}

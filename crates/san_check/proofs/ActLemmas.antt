@@ -14,12 +14,12 @@ use Rattle.san_expr.specs.Below.{places_below}
 use Rattle.san_net.specs.Below.{input_below, output_below, inputs_below, outputs_below, case_below, cases_below}
 use Rattle.san_net.specs.Lengths.{has_lengths, all_true, input_has_lengths, output_has_lengths, case_has_lengths}
 use Rattle.san_net.specs.Accepted.{IsWeight, IsAcceptedInput, IsAcceptedOutput}
-use Rattle.san_check.specs.Entries.{code, joined}
-use Rattle.san_check.specs.Expressions.{Places, expr_entries, stmts_entries}
-use Rattle.san_check.specs.Activities.{is_outside, weight_entries, arc_entries, input_entries, output_entries, outputs_entries, case_entries, cases_entries}
-use Rattle.san_check.specs.Cells.{CellTable, cells_at}
-use Rattle.san_check.specs.Formulas.{expr_of}
-use Rattle.san_check.specs.Actions.{weight_of, input_of, output_of, outputs_of, case_of, only_case, cases_of}
+use Rattle.san_check.specs.walk.Entries.{code, joined}
+use Rattle.san_check.specs.walk.Expression.{Places, expr_entries, stmts_entries}
+use Rattle.san_check.specs.walk.Activity.{is_outside, weight_entries, arc_entries, input_entries, output_entries, outputs_entries, case_entries, cases_entries}
+use Rattle.san_check.specs.build.Cells.{CellTable, cells_at}
+use Rattle.san_check.specs.build.Expression.{expr_of}
+use Rattle.san_check.specs.build.Activity.{weight_of, input_of, output_of, outputs_of, case_of, only_case, cases_of}
 use Rattle.san_check.specs.Formed.{IsFormedCases}
 use Rattle.san_check.proofs.FreeLemmas.{Free, free_left, free_right, code_free}
 use Rattle.san_check.proofs.ListedLemmas.{or_left, or_right}

@@ -8,13 +8,13 @@ use Rattle.san_text.specs.declared.syntax.ModelDecl.{ModelDecl}
 use Rattle.san_text.specs.declared.syntax.ModelDecl.TheVariants as model
 use Rattle.san_text.specs.declared.syntax.RewardDecl.{RewardDecl}
 use Rattle.san_net.specs.declared.part.Reward.{Reward}
-use Rattle.san_check.specs.declared.models.Known.{Known}
+use Rattle.san_check.specs.declared.known.Known.{Known}
 use Rattle.san_check.specs.Tables.{is_known, declared}
-use Rattle.san_check.specs.Activities.{Acts}
-use Rattle.san_check.specs.Compositions.{Models, nothing, known_as, name_of, known_of, with_model, all_models}
-use Rattle.san_check.specs.Rewards.{reward_entries, rewards_entries}
-use Rattle.san_check.specs.Spans.{with_atomic, all_atomics, reward_of}
-use Rattle.san_check.specs.Nets.{atomic_in, atomics_from}
+use Rattle.san_check.specs.walk.Activity.{Acts}
+use Rattle.san_check.specs.walk.Composition.{Models, nothing, known_as, name_of, known_of, with_model, all_models}
+use Rattle.san_check.specs.walk.Reward.{reward_entries, rewards_entries}
+use Rattle.san_check.specs.build.Reward.{with_atomic, all_atomics, reward_of}
+use Rattle.san_check.specs.build.Atomic.{atomic_in, atomics_from}
 use Rattle.san_check.proofs.FreeLemmas.{Free, free_left, free_right, code_free, not_false}
 use Rattle.san_check.proofs.TableLemmas.{declared_last, declared_known}
 use Rattle.san_check.proofs.TreeLemmas.{grows, number_below}

@@ -14,11 +14,11 @@ use Rattle.san_expr.specs.declared.stmt.Stmt.TheViews as made
 use Rattle.san_expr.specs.declared.stmt.Stmt.TheOpen.{Stmt-F}
 use Rattle.san_expr.specs.declared.stmt.Stmt.TheFolds.{fold-roll-Stmt}
 use Rattle.san_net.specs.Lengths.{has_lengths, stmt_lengths_step, stmt_has_lengths, stmts_have_lengths}
-use Rattle.san_check.specs.declared.cells.Cells.{Cells}
-use Rattle.san_check.specs.Entries.{Entries, joined}
-use Rattle.san_check.specs.Expressions.{Places, expr_entries, stmt_step, stmt_entries, stmts_entries}
-use Rattle.san_check.specs.Cells.{CellTable, cells_at}
-use Rattle.san_check.specs.Formulas.{expr_of, set_in, stmt_of_step, stmt_of, stmts_of}
+use Rattle.san_check.specs.declared.build.cells.Cells.{Cells}
+use Rattle.san_check.specs.walk.Entries.{Entries, joined}
+use Rattle.san_check.specs.walk.Expression.{Places, expr_entries, stmt_step, stmt_entries, stmts_entries}
+use Rattle.san_check.specs.build.Cells.{CellTable, cells_at}
+use Rattle.san_check.specs.build.Expression.{expr_of, set_in, stmt_of_step, stmt_of, stmts_of}
 use Rattle.san_check.proofs.FreeLemmas.{Free, free_left, free_right}
 use Rattle.san_check.proofs.FitLemmas.{In, Placed, Good, both, whole_known, element_known, first_below, expr_good}
 

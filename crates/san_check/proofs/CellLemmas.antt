@@ -4,9 +4,9 @@ use Rattle.std.proofs.lemmas.List.{length-replicate}
 use Rattle.std.specs.Prelude.{unwrap_or, slice_get}
 use Rattle.san_text.specs.declared.syntax.PlaceDecl.{PlaceDecl}
 use Rattle.san_net.specs.Apart.{AreApart}
-use Rattle.san_check.specs.Atomics.{cells_of}
-use Rattle.san_check.specs.Nodes.{capped}
-use Rattle.san_check.specs.Cells.{values_of, all_values, elements, all_elements}
+use Rattle.san_check.specs.walk.Atomic.{cells_of}
+use Rattle.san_check.specs.build.Composition.{capped}
+use Rattle.san_check.specs.build.Cells.{values_of, all_values, elements, all_elements}
 
 elements_long : (place element left : ℕ) → length (elements place element left) ≡ left
 elements_long place element zero = refl

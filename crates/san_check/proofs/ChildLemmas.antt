@@ -9,9 +9,9 @@ use Rattle.san_tree.specs.Places.{node_at}
 use Rattle.san_net.specs.Apart.{AreApart}
 use Rattle.san_net.specs.Names.{is_name}
 use Rattle.san_check.specs.Tables.{is_known}
-use Rattle.san_check.specs.Entries.{code}
-use Rattle.san_check.specs.Compositions.{Models, Children, child_code, children_entries, with_child, all_children, shown_by, shares_entries, model_entries, models_entries, with_model}
-use Rattle.san_check.specs.Nodes.{child_of, node_of, atomics_after, nodes_from}
+use Rattle.san_check.specs.walk.Entries.{code}
+use Rattle.san_check.specs.walk.Composition.{Models, Children, child_code, children_entries, with_child, all_children, shown_by, shares_entries, model_entries, models_entries, with_model}
+use Rattle.san_check.specs.build.Composition.{child_of, node_of, atomics_after, nodes_from}
 use Rattle.san_check.specs.Composed.{children_of}
 use Rattle.san_check.specs.Formed.{IsFormedModel}
 use Rattle.san_check.proofs.FreeLemmas.{Free, free_left, free_right, code_free, else_first}

@@ -7,13 +7,13 @@ use Rattle.san_text.specs.declared.syntax.Syntax.{Syntax}
 use Rattle.san_tree.specs.declared.node.Node.TheVariants.{Leaf}
 use Rattle.san_tree.specs.Places.{node_at}
 use Rattle.san_net.specs.declared.part.Reward.{Reward}
-use Rattle.san_check.specs.Compositions.{model_code, models_entries, all_models}
-use Rattle.san_check.specs.Rewards.{rewards_entries}
-use Rattle.san_check.specs.Texts.{syntax_entries, syntax_fault}
-use Rattle.san_check.specs.Nodes.{nodes_from, nodes_of, shown_of}
-use Rattle.san_check.specs.Nets.{atomics_from, atomics_of}
-use Rattle.san_check.specs.Spans.{all_atomics, reward_of, rewards_of}
-use Rattle.san_check.specs.Cells.{elements_of}
+use Rattle.san_check.specs.walk.Composition.{model_code, models_entries, all_models}
+use Rattle.san_check.specs.walk.Reward.{rewards_entries}
+use Rattle.san_check.specs.walk.Model.{syntax_entries, syntax_fault}
+use Rattle.san_check.specs.build.Composition.{nodes_from, nodes_of, shown_of}
+use Rattle.san_check.specs.build.Atomic.{atomics_from, atomics_of}
+use Rattle.san_check.specs.build.Reward.{all_atomics, reward_of, rewards_of}
+use Rattle.san_check.specs.build.Cells.{elements_of}
 use Rattle.san_check.specs.Formed.{IsFormed}
 use Rattle.san_check.specs.Composed.{IsComposed}
 use Rattle.san_check.proofs.FreeLemmas.{Free, free_of, free_left, free_right}

@@ -8,11 +8,11 @@ use Rattle.san_text.specs.declared.syntax.DistDecl.{DistDecl}
 use Rattle.san_text.specs.declared.syntax.DistDecl.TheVariants as dist
 use Rattle.san_expr.specs.Below.{places_below, dist_below}
 use Rattle.san_net.specs.Lengths.{has_lengths, dist_has_lengths}
-use Rattle.san_check.specs.Entries.{code}
-use Rattle.san_check.specs.Expressions.{Places, expr_entries}
-use Rattle.san_check.specs.Activities.{is_outside, delay_code, weight_code, summed, table_entries, dist_entries}
-use Rattle.san_check.specs.Cells.{CellTable}
-use Rattle.san_check.specs.Formulas.{expr_of, dist_of}
+use Rattle.san_check.specs.walk.Entries.{code}
+use Rattle.san_check.specs.walk.Expression.{Places, expr_entries}
+use Rattle.san_check.specs.walk.Activity.{is_outside, delay_code, weight_code, summed, table_entries, dist_entries}
+use Rattle.san_check.specs.build.Cells.{CellTable}
+use Rattle.san_check.specs.build.Expression.{expr_of, dist_of}
 use Rattle.san_check.specs.Formed.{IsFormedDist}
 use Rattle.san_check.proofs.FreeLemmas.{Free, free_left, free_right, code_free, else_first, else_second}
 use Rattle.san_check.proofs.ListedLemmas.{positive}

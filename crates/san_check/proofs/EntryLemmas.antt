@@ -1,9 +1,10 @@
 -- Walking one part, then another.
-use Rattle.std.proofs.Common.{◌≡◌, ℕ, suc, ◌+◌, ◌<◌, List, [], ◌∷◌, ◌++◌, map, length, drop, get_or, min, Option, Some, None, refl, sym, ap, ◌∙◌, arith, add-one, drop-cons}
+use Rattle.std.proofs.Common.{◌≡◌, ℕ, suc, ◌+◌, ◌<◌, List, [], ◌∷◌, ◌++◌, map, length, drop, get_or, min, Some, None, refl, sym, ap, ◌∙◌, arith, add-one, drop-cons}
 use Rattle.std.specs.Option.{option_map}
 use Rattle.san_check.specs.declared.walk.Walk.{Walk}
 use Rattle.san_check.specs.declared.walk.Fault.{Fault}
-use Rattle.san_check.specs.Entries.{Entries, seen, seen_all, joined, first_fault, told}
+use Rattle.san_check.specs.walk.Entries.{Entries, joined, first_fault, told}
+use Rattle.san_check.specs.inner.Walks.{seen, seen_all}
 
 pub seen_append : (walk : Walk) (us vs : Entries) → seen_all walk (us ++ vs) ≡ seen_all (seen_all walk us) vs
 seen_append walk [] vs = refl
@@ -18,10 +19,6 @@ three_parts w w1 w2 w3 us vs ws a b c = two_parts w w1 w3 us (vs ++ ws) a (two_p
 -- one more part, and what is left behind it
 pub part_goes_on : (w w1 total : Walk) (us vs : Entries) → w1 ≡ seen_all w us → seen_all w (us ++ vs) ≡ total → seen_all w1 vs ≡ total
 part_goes_on w w1 total us vs h so_far = ap (λ (x : Walk). seen_all x vs) h ∙ sym (seen_append w us vs) ∙ so_far
-
--- one more word, and what is left behind it
-pub word_goes_on : (w w1 total : Walk) (u : Option ℕ) (vs : Entries) → w1 ≡ seen w u → seen_all w (u ∷ vs) ≡ total → seen_all w1 vs ≡ total
-word_goes_on w w1 total u vs h so_far = ap (λ (x : Walk). seen_all x vs) h ∙ so_far
 
 -- the next item of a list, and those behind it
 pub dropped : {A : Type 0} (xs : List A) (i : ℕ) (x : A) → i < length xs → x ≡ get_or xs i x → drop i xs ≡ x ∷ drop (i + 1) xs

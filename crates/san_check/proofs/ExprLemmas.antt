@@ -12,8 +12,9 @@ use Rattle.san_text.specs.declared.syntax.StmtDecl.TheVariants as plain
 use Rattle.san_text.specs.declared.syntax.StmtDecl.TheOpen.{StmtDecl-F}
 use Rattle.san_text.specs.declared.syntax.StmtDecl.TheFolds.{fold-roll-StmtDecl}
 use Rattle.san_check.specs.declared.walk.Walk.{Walk}
-use Rattle.san_check.specs.Entries.{Entries, seen_all, seen}
-use Rattle.san_check.specs.Expressions.{Places, element, expr_step, first_entries, expr_entries, stmt_step, stmt_entries, stmts_entries}
+use Rattle.san_check.specs.walk.Entries.{Entries}
+use Rattle.san_check.specs.inner.Walks.{seen_all, seen}
+use Rattle.san_check.specs.walk.Expression.{Places, element, expr_step, first_entries, expr_entries, stmt_step, stmt_entries, stmts_entries}
 use Rattle.san_check.proofs.EntryLemmas.{two_parts, three_parts}
 
 binary : (places : Places) (o : Op) (x y : Ast) (late : Bool) → first_entries places (ast.Binary o x y) late ≡ first_entries places x late ++ first_entries places y false

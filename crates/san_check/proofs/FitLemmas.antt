@@ -14,12 +14,12 @@ use Rattle.san_expr.specs.declared.expr.Expr.TheViews as expr
 use Rattle.san_expr.specs.declared.expr.Expr.TheOpen.{Expr-F}
 use Rattle.san_expr.specs.declared.expr.Expr.TheFolds.{fold-roll-Expr}
 use Rattle.san_net.specs.Lengths.{has_lengths, lengths_step}
-use Rattle.san_check.specs.declared.cells.Cells.{Cells}
+use Rattle.san_check.specs.declared.build.cells.Cells.{Cells}
 use Rattle.san_check.specs.Tables.{found, is_known}
-use Rattle.san_check.specs.Entries.{Entries, code}
-use Rattle.san_check.specs.Expressions.{Places, is_array, whole, element, entry, expr_step, first_entries}
-use Rattle.san_check.specs.Cells.{CellTable, cells_at}
-use Rattle.san_check.specs.Formulas.{expr_of_step, expr_of}
+use Rattle.san_check.specs.walk.Entries.{Entries, code}
+use Rattle.san_check.specs.walk.Expression.{Places, is_array, whole, element, entry, expr_step, first_entries}
+use Rattle.san_check.specs.build.Cells.{CellTable, cells_at}
+use Rattle.san_check.specs.build.Expression.{expr_of_step, expr_of}
 use Rattle.san_check.proofs.FreeLemmas.{Free, free_left, free_right, code_free, else_first, not_false}
 
 -- cells below a number

@@ -1,7 +1,7 @@
 -- What entries without a code tell.
 use Rattle.std.proofs.Common.{◌≡◌, ℕ, suc, ◌<◌, Bool, true, false, not, [], ◌∷◌, ◌++◌, Option, Some, None, is_some, nat_le, refl, ap, true≢false}
 use Rattle.std.proofs.lemmas.Bool.{leb-false}
-use Rattle.san_check.specs.Entries.{Entries, code, ◌else◌, first_fault}
+use Rattle.san_check.specs.walk.Entries.{Entries, code, ◌else◌, first_fault}
 
 -- no word has a code
 abbrev pub Free : Entries → Type 0

@@ -18,13 +18,13 @@ use Rattle.san_tree.specs.declared.node.Node.{Node}
 use Rattle.san_tree.specs.Places as tree
 use Rattle.san_check.specs.declared.place.Place.{Place}
 use Rattle.san_check.specs.Tables.{Pairs, found, is_known, declared, has_pair, all_paired}
-use Rattle.san_check.specs.Entries.{code, ◌else◌}
-use Rattle.san_check.specs.Expressions.{Places}
-use Rattle.san_check.specs.Activities.{Acts}
-use Rattle.san_check.specs.Compositions.{Models, Children, children_entries, all_children, shown_by, place_in, part_place, differs, initial_differs, length_differs, part_code, shared_code, parts_entries, first_place, shown_as, shares_entries, with_share, all_shares, shown_code, shown_entries, with_shown, all_shown, model_code, model_entries, known_of, name_code, name_of, models_entries, with_model, all_models}
-use Rattle.san_check.specs.Rewards.{rewards_entries}
-use Rattle.san_check.specs.Texts.{syntax_entries, syntax_fault}
-use Rattle.san_check.specs.Nodes.{number, child_places, part_numbers, share_of, child_of, node_of, atomics_after, nodes_from, nodes_of, place_at, places_at, shown_at, shown_of}
+use Rattle.san_check.specs.walk.Entries.{code, ◌else◌}
+use Rattle.san_check.specs.walk.Expression.{Places}
+use Rattle.san_check.specs.walk.Activity.{Acts}
+use Rattle.san_check.specs.walk.Composition.{Models, Children, children_entries, all_children, shown_by, place_in, part_place, differs, initial_differs, length_differs, part_code, shared_code, parts_entries, first_place, shown_as, shares_entries, with_share, all_shares, shown_code, shown_entries, with_shown, all_shown, model_code, model_entries, known_of, name_code, name_of, models_entries, with_model, all_models}
+use Rattle.san_check.specs.walk.Reward.{rewards_entries}
+use Rattle.san_check.specs.walk.Model.{syntax_entries, syntax_fault}
+use Rattle.san_check.specs.build.Composition.{number, child_places, part_numbers, share_of, child_of, node_of, atomics_after, nodes_from, nodes_of, place_at, places_at, shown_at, shown_of}
 use Rattle.san_check.proofs.TableLemmas.{declared_last}
 use Rattle.san_check.proofs.FreeLemmas.{Free, free_of, free_left, free_right, code_free, else_first, else_second, not_false}
 use Rattle.san_check.proofs.TreeLemmas.{models_grow, models_few, models_free, children_free, grows}

@@ -9,13 +9,13 @@ use Rattle.san_expr.specs.Below.{places_below, dist_below}
 use Rattle.san_net.specs.Below.{inputs_below, kind_below}
 use Rattle.san_net.specs.Lengths.{has_lengths, all_true, dist_has_lengths, kind_has_lengths, input_has_lengths}
 use Rattle.san_net.specs.Accepted.{IsAcceptedKind, IsAcceptedActivity}
-use Rattle.san_check.specs.Entries.{joined}
-use Rattle.san_check.specs.Expressions.{Places, expr_entries}
-use Rattle.san_check.specs.Activities.{input_entries, cases_entries, dist_entries, pair_entries, timing_entries, priority_entries, front_entries, act_entries}
-use Rattle.san_check.specs.Cells.{CellTable}
-use Rattle.san_check.specs.Nodes.{capped}
-use Rattle.san_check.specs.Formulas.{expr_of, dist_of}
-use Rattle.san_check.specs.Actions.{input_of, pair_of, kind_of, activity_of}
+use Rattle.san_check.specs.walk.Entries.{joined}
+use Rattle.san_check.specs.walk.Expression.{Places, expr_entries}
+use Rattle.san_check.specs.walk.Activity.{input_entries, cases_entries, dist_entries, pair_entries, timing_entries, priority_entries, front_entries, act_entries}
+use Rattle.san_check.specs.build.Cells.{CellTable}
+use Rattle.san_check.specs.build.Composition.{capped}
+use Rattle.san_check.specs.build.Expression.{expr_of, dist_of}
+use Rattle.san_check.specs.build.Activity.{input_of, pair_of, kind_of, activity_of}
 use Rattle.san_check.specs.Formed.{IsFormedTiming, IsFormedAct}
 use Rattle.san_check.proofs.FreeLemmas.{Free, free_left, free_right, code_free}
 use Rattle.san_check.proofs.FitLemmas.{Placed, both, expr_good}

@@ -14,13 +14,13 @@ use Rattle.san_tree.specs.Places.{node_at}
 use Rattle.san_net.specs.Apart.{AreApart}
 use Rattle.san_net.specs.declared.atomic.Atomic.{Atomic}
 use Rattle.san_check.specs.declared.place.Place.{Place}
-use Rattle.san_check.specs.declared.models.Known.{Known}
-use Rattle.san_check.specs.Expressions.{Places}
-use Rattle.san_check.specs.Atomics.{place_of, places_entries, all_places, acts_entries}
-use Rattle.san_check.specs.Compositions.{Models, name_of, known_of, model_entries, models_entries, with_model, all_models}
-use Rattle.san_check.specs.Nodes.{capped, node_of, atomics_after, nodes_from, place_at, places_at, shown_at}
-use Rattle.san_check.specs.Cells.{all_values, all_elements, elements_in, elements_from}
-use Rattle.san_check.specs.Nets.{atomic_of, atomic_in, atomics_from}
+use Rattle.san_check.specs.declared.known.Known.{Known}
+use Rattle.san_check.specs.walk.Expression.{Places}
+use Rattle.san_check.specs.walk.Atomic.{place_of, places_entries, all_places, acts_entries}
+use Rattle.san_check.specs.walk.Composition.{Models, name_of, known_of, model_entries, models_entries, with_model, all_models}
+use Rattle.san_check.specs.build.Composition.{capped, node_of, atomics_after, nodes_from, place_at, places_at, shown_at}
+use Rattle.san_check.specs.build.Cells.{all_values, all_elements, elements_in, elements_from}
+use Rattle.san_check.specs.build.Atomic.{atomic_of, atomic_in, atomics_from}
 use Rattle.san_check.proofs.FreeLemmas.{Free, free_left, free_right}
 use Rattle.san_check.proofs.FreshLemmas.{some_same}
 use Rattle.san_check.proofs.ListedLemmas.{places_listed, places_few}

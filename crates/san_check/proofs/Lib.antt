@@ -29,3 +29,5 @@ pub mod ReadLemmas
 pub mod NamedLemmas
 pub mod FormedLemmas
 pub mod ModelLemmas
+pub mod Examples
+pub mod MadeExamples

@@ -13,13 +13,13 @@ use Rattle.san_text.specs.declared.syntax.ShareDecl.{ShareDecl}
 use Rattle.san_text.specs.declared.syntax.ModelDecl.{ModelDecl}
 use Rattle.san_text.specs.declared.syntax.ModelDecl.TheVariants as model
 use Rattle.san_check.specs.declared.place.Place.{Place}
-use Rattle.san_check.specs.declared.models.Known.{Known}
+use Rattle.san_check.specs.declared.known.Known.{Known}
 use Rattle.san_check.specs.Tables.{Table, Pairs, found, is_known, declared, all_paired}
-use Rattle.san_check.specs.Entries.{code, ◌else◌}
-use Rattle.san_check.specs.Expressions.{Places}
-use Rattle.san_check.specs.Atomics.{cells_of, counted, place_code, length_entries, initial_entries, place_of, with_place, places_entries, all_places, acts_entries}
-use Rattle.san_check.specs.Compositions.{Models, Children, nothing, child_code, children_entries, with_child, all_children, shown_by, first_place, parts_entries, share_code, shares_entries, with_share, all_shares, shown_as, shown_code, shown_entries, with_shown, all_shown, known_of, model_entries}
-use Rattle.san_check.specs.Nodes.{number, place_at, places_at, shown_at}
+use Rattle.san_check.specs.walk.Entries.{code, ◌else◌}
+use Rattle.san_check.specs.walk.Expression.{Places}
+use Rattle.san_check.specs.walk.Atomic.{cells_of, counted, place_code, length_entries, initial_entries, place_of, with_place, places_entries, all_places, acts_entries}
+use Rattle.san_check.specs.walk.Composition.{Models, Children, nothing, child_code, children_entries, with_child, all_children, shown_by, first_place, parts_entries, share_code, shares_entries, with_share, all_shares, shown_as, shown_code, shown_entries, with_shown, all_shown, known_of, model_entries}
+use Rattle.san_check.specs.build.Composition.{number, place_at, places_at, shown_at}
 use Rattle.san_check.proofs.TableLemmas.{declared_last}
 use Rattle.san_check.proofs.FreeLemmas.{Free, free_left, free_right, code_free, else_first, else_second}
 use Rattle.san_check.proofs.TreeLemmas.{grows, shares_free, shown_free}

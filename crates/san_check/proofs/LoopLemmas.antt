@@ -1,7 +1,8 @@
 -- A turn of a loop over declarations.
 use Rattle.std.proofs.Common.{◌≡◌, ℕ, suc, ◌+◌, ◌<◌, List, [], ◌∷◌, ◌++◌, length, drop, get_or, map, replicate, append_assoc, sym, ap, ◌∙◌, drop-cons}
 use Rattle.san_check.specs.declared.walk.Walk.{Walk}
-use Rattle.san_check.specs.Entries.{Entries, seen_all}
+use Rattle.san_check.specs.walk.Entries.{Entries}
+use Rattle.san_check.specs.inner.Walks.{seen_all}
 use Rattle.san_check.proofs.EntryLemmas.{part_goes_on, dropped}
 
 -- what declarations make of what was known before them, one by one

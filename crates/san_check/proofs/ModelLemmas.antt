@@ -5,12 +5,13 @@ use Rattle.san_text.specs.declared.syntax.Syntax.{Syntax}
 use Rattle.san_tree.specs.declared.node.Node.{Node}
 use Rattle.san_net.specs.declared.atomic.Atomic.{Atomic}
 use Rattle.san_net.specs.declared.part.Reward.{Reward}
-use Rattle.san_check.specs.Texts.{syntax_fault}
-use Rattle.san_check.specs.Nodes.{nodes_of, root_of}
-use Rattle.san_check.specs.Nets.{atomics_of}
-use Rattle.san_check.specs.Spans.{rewards_of}
-use Rattle.san_check.specs.Cells.{elements_of}
-use Rattle.san_check.specs.Checked.{IsRead, IsModel}
+use Rattle.san_check.specs.walk.Model.{syntax_fault}
+use Rattle.san_check.specs.build.Composition.{nodes_of, root_of}
+use Rattle.san_check.specs.build.Atomic.{atomics_of}
+use Rattle.san_check.specs.build.Reward.{rewards_of}
+use Rattle.san_check.specs.build.Cells.{elements_of}
+use Rattle.san_check.specs.Checked.{IsRead}
+use Rattle.san_check.specs.inner.Models.{IsModel}
 use Rattle.san_check.specs.Composed.{IsComposed}
 use Rattle.san_check.specs.Formed.{IsFormed}
 use Rattle.san_check.proofs.FormedLemmas.{parsed_formed}

@@ -4,7 +4,7 @@ use Rattle.std.proofs.lemmas.Bool.Decides.{nat_tests}
 use Rattle.std.proofs.lemmas.List.Elements.{All-cons, All-nil}
 use Rattle.san_lex.specs.Bytes as bytes
 use Rattle.san_lex.specs.Bytes.{each}
-use Rattle.san_lex.specs.Lexing.{Word}
+use Rattle.san_lex.specs.Lexer.{Word}
 use Rattle.san_lex.specs.Words.{IsName, AreWords}
 use Rattle.san_lex.proofs.RunLemmas.{digit_test}
 use Rattle.san_text.specs.declared.syntax.ActDecl.{ActDecl}

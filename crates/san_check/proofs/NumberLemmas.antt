@@ -8,7 +8,7 @@ use Rattle.std.specs.List.{position_or_len}
 use Rattle.std.specs.Map.{keys_of, lookup}
 use Rattle.std.specs.Str.{bytes_eq}
 use Rattle.san_check.specs.Tables.{Table, found, is_known, declared}
-use Rattle.san_check.specs.Nodes.{number}
+use Rattle.san_check.specs.build.Composition.{number}
 use Rattle.san_check.proofs.TableLemmas.{declared_last, declared_known}
 use Rattle.san_check.proofs.TreeLemmas.{here}
 

@@ -12,13 +12,13 @@ use Rattle.san_tree.specs.Places.{node_at, shares_of, NamesOnce, SharesApart}
 use Rattle.san_tree.proofs.ShareLemmas.{shares-apart}
 use Rattle.san_check.specs.declared.place.Place.{Place}
 use Rattle.san_check.specs.Tables.{Pairs, is_known, declared, all_paired}
-use Rattle.san_check.specs.Entries.{code}
-use Rattle.san_check.specs.Expressions.{Places}
-use Rattle.san_check.specs.Activities.{Acts}
-use Rattle.san_check.specs.Compositions.{Models, Children, children_entries, with_child, all_children, shown_by, nothing, part_code, parts_entries, first_place, shares_entries, with_share, model_entries, models_entries, with_model, all_models, model_code}
-use Rattle.san_check.specs.Rewards.{rewards_entries}
-use Rattle.san_check.specs.Texts.{syntax_entries, syntax_fault}
-use Rattle.san_check.specs.Nodes.{number, part_numbers, share_of, node_of, atomics_after, nodes_from, nodes_of}
+use Rattle.san_check.specs.walk.Entries.{code}
+use Rattle.san_check.specs.walk.Expression.{Places}
+use Rattle.san_check.specs.walk.Activity.{Acts}
+use Rattle.san_check.specs.walk.Composition.{Models, Children, children_entries, with_child, all_children, shown_by, nothing, part_code, parts_entries, first_place, shares_entries, with_share, model_entries, models_entries, with_model, all_models, model_code}
+use Rattle.san_check.specs.walk.Reward.{rewards_entries}
+use Rattle.san_check.specs.walk.Model.{syntax_entries, syntax_fault}
+use Rattle.san_check.specs.build.Composition.{number, part_numbers, share_of, node_of, atomics_after, nodes_from, nodes_of}
 use Rattle.san_check.proofs.FreeLemmas.{Free, free_of, free_left, free_right, code_free, else_first, else_second, not_false}
 use Rattle.san_check.proofs.TreeLemmas.{models_grow, grows, children_free}
 use Rattle.san_check.proofs.NumberLemmas.{numbers_apart, found_front, known_itself, known_stays}

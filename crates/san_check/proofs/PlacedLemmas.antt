@@ -7,13 +7,13 @@ use Rattle.std.specs.Prelude.{unwrap_or}
 use Rattle.std.specs.Map.{lookup}
 use Rattle.std.specs.Str.{bytes_eq}
 use Rattle.san_text.specs.declared.syntax.PlaceDecl.{PlaceDecl}
-use Rattle.san_check.specs.declared.cells.Cells.{Cells}
+use Rattle.san_check.specs.declared.build.cells.Cells.{Cells}
 use Rattle.san_check.specs.Tables.{Table, found, is_known, declared}
-use Rattle.san_check.specs.Entries.{code}
-use Rattle.san_check.specs.Expressions.{Places}
-use Rattle.san_check.specs.Nodes.{capped}
-use Rattle.san_check.specs.Atomics.{cells_of, counted, place_code, length_entries, initial_entries, place_of, with_place, places_entries, all_places}
-use Rattle.san_check.specs.Cells.{CellTable, cells_at, no_cells, cells_behind, all_cells, values_of, all_values}
+use Rattle.san_check.specs.walk.Entries.{code}
+use Rattle.san_check.specs.walk.Expression.{Places}
+use Rattle.san_check.specs.build.Composition.{capped}
+use Rattle.san_check.specs.walk.Atomic.{cells_of, counted, place_code, length_entries, initial_entries, place_of, with_place, places_entries, all_places}
+use Rattle.san_check.specs.build.Cells.{CellTable, cells_at, no_cells, cells_behind, all_cells, values_of, all_values}
 use Rattle.san_check.proofs.TableLemmas.{declared_last}
 use Rattle.san_check.proofs.NumberLemmas.{found_front}
 use Rattle.san_check.proofs.FreeLemmas.{Free, free_left, free_right, code_free, else_first, else_second}

@@ -4,7 +4,7 @@ use Rattle.std.proofs.lemmas.List.Elements.{All-cons, All-nil, All-head, All-tai
 use Rattle.san_lex.specs.declared.sign.Keyword.TheVariants as keyword
 use Rattle.san_lex.specs.declared.sign.Mark.TheVariants as mark
 use Rattle.san_lex.specs.declared.sign.Sign.TheVariants as sign
-use Rattle.san_lex.specs.Lexing.{Word}
+use Rattle.san_lex.specs.Lexer.{Word}
 use Rattle.san_text.specs.declared.syntax.ActDecl.{ActDecl}
 use Rattle.san_text.specs.declared.syntax.Timing.{Timing}
 use Rattle.san_text.specs.declared.syntax.Cases.{Cases}
@@ -14,14 +14,15 @@ use Rattle.san_text.specs.declared.syntax.ModelDecl.{ModelDecl}
 use Rattle.san_text.specs.declared.syntax.ModelDecl.TheVariants as model
 use Rattle.san_text.specs.declared.syntax.Syntax.{Syntax}
 use Rattle.san_text.specs.Words.{tail}
-use Rattle.san_text.specs.Reading.{Fault, Reads, ◌>>=◌, name_at, number_at, mark_at, keyword_at, next_keyword, next_mark, many, all_of, gathered}
+use Rattle.san_text.specs.Steps.{Fault, Reads, ◌>>=◌, name_at, number_at, mark_at, keyword_at, next_keyword, next_mark, many, all_of, gathered}
 use Rattle.san_text.specs.Expressions.{expr}
 use Rattle.san_text.specs.Activities.{place_at, starts_input, input_at, starts_act, act_at, timed_at, instant_at, timing_at, pair_at, priority_at, dist_at, det_at, uniform_at, geom_at, table_at, entries_at, entry_at, more_entry, cases_at, weighted_at, plain_at, case_at, starts_output, output_at}
 use Rattle.san_text.specs.Models.{syntax_at, head_at, starts_model, model_at, atomic_at, join_at, child_at, share_at, rep_at, copied_at, times_at, shown_at, system_at, reward_at, ended}
 use Rattle.san_text.proofs.FrontLemmas.{bind_ok, ok_is, next_is}
 use Rattle.san_text.proofs.StepLemmas.{signed}
 use Rattle.san_text.proofs.LocalLemmas.{Local, name_local, all_local}
-use Rattle.san_text.proofs.LocalGrammarLemmas.{places_listed, inputs_listed, timing_local, priority_local, acts_listed, models_listed, head_local}
+use Rattle.san_text.proofs.LocalGrammarLemmas.{places_listed, inputs_listed, timing_local, priority_local, acts_listed}
+use Rattle.san_text.proofs.LocalModelLemmas.{models_listed, head_local}
 use Rattle.san_check.specs.Formed.{IsFormedDist, IsFormedTiming}
 
 -- ---- lists

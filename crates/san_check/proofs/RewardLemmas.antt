@@ -11,17 +11,17 @@ use Rattle.san_text.specs.declared.syntax.TermDecl.{TermDecl}
 use Rattle.san_text.specs.declared.syntax.TermDecl.TheVariants as term
 use Rattle.san_net.specs.declared.atomic.RateTerm.{RateTerm}
 use Rattle.san_net.specs.declared.atomic.ImpulseTerm.{ImpulseTerm}
-use Rattle.san_check.specs.declared.models.Known.{Known}
+use Rattle.san_check.specs.declared.known.Known.{Known}
 use Rattle.san_check.specs.Tables.{is_known, declared}
-use Rattle.san_check.specs.Entries.{code}
-use Rattle.san_check.specs.Expressions.{Places}
-use Rattle.san_check.specs.Activities.{Acts}
-use Rattle.san_check.specs.Compositions.{Models, known_as}
-use Rattle.san_check.specs.Rewards.{reward_code, span_entries, is_at, terms_entries, reward_entries, rewards_entries}
-use Rattle.san_check.specs.Cells.{CellTable}
-use Rattle.san_check.specs.Nodes.{capped, number}
-use Rattle.san_check.specs.Formulas.{expr_of}
-use Rattle.san_check.specs.Terms.{rate_in, impulse_in, rates_in, impulses_in, rates_on, impulses_on, all_rates, all_impulses}
+use Rattle.san_check.specs.walk.Entries.{code}
+use Rattle.san_check.specs.walk.Expression.{Places}
+use Rattle.san_check.specs.walk.Activity.{Acts}
+use Rattle.san_check.specs.walk.Composition.{Models, known_as}
+use Rattle.san_check.specs.walk.Reward.{reward_code, span_entries, is_at, terms_entries, reward_entries, rewards_entries}
+use Rattle.san_check.specs.build.Cells.{CellTable}
+use Rattle.san_check.specs.build.Composition.{capped, number}
+use Rattle.san_check.specs.build.Expression.{expr_of}
+use Rattle.san_check.specs.build.Term.{rate_in, impulse_in, rates_in, impulses_in, rates_on, impulses_on, all_rates, all_impulses}
 use Rattle.san_check.proofs.FreeLemmas.{Free, free_left, free_right, else_second, room}
 use Rattle.san_check.proofs.FitLemmas.{Placed}
 use Rattle.san_check.proofs.TermLemmas.{GoodRate, GoodImpulse, terms_good}

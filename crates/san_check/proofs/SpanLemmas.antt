@@ -19,18 +19,18 @@ use Rattle.san_net.specs.declared.atomic.RateTerm.{RateTerm}
 use Rattle.san_net.specs.declared.atomic.ImpulseTerm.{ImpulseTerm}
 use Rattle.san_net.specs.declared.part.Reward.{Reward}
 use Rattle.san_check.specs.Tables.{is_known, declared}
-use Rattle.san_check.specs.Entries.{code, ◌else◌}
-use Rattle.san_check.specs.Expressions.{Places, first_entries, expr_entries}
-use Rattle.san_check.specs.Activities.{Acts}
-use Rattle.san_check.specs.Atomics.{all_acts}
-use Rattle.san_check.specs.Compositions.{Models, known_as}
-use Rattle.san_check.specs.Rewards.{reward_code, end_code, span_entries, is_at, impulse_code, term_entries, terms_entries, reward_entries, rewards_entries}
-use Rattle.san_check.specs.Spans.{span_of, reward_of}
-use Rattle.san_check.specs.Cells.{CellTable, all_cells}
-use Rattle.san_check.specs.Nodes.{capped, number}
-use Rattle.san_check.specs.Formulas.{expr_of}
-use Rattle.san_check.specs.Terms.{rate_in, impulse_in, rates_in, impulses_in, rates_on, impulses_on, all_rates, all_impulses}
-use Rattle.san_check.specs.Nets.{atomic_of, atomic_in, atomics_from}
+use Rattle.san_check.specs.walk.Entries.{code, ◌else◌}
+use Rattle.san_check.specs.walk.Expression.{Places, first_entries, expr_entries}
+use Rattle.san_check.specs.walk.Activity.{Acts}
+use Rattle.san_check.specs.walk.Atomic.{all_acts}
+use Rattle.san_check.specs.walk.Composition.{Models, known_as}
+use Rattle.san_check.specs.walk.Reward.{reward_code, end_code, span_entries, is_at, impulse_code, term_entries, terms_entries, reward_entries, rewards_entries}
+use Rattle.san_check.specs.build.Reward.{span_of, reward_of}
+use Rattle.san_check.specs.build.Cells.{CellTable, all_cells}
+use Rattle.san_check.specs.build.Composition.{capped, number}
+use Rattle.san_check.specs.build.Expression.{expr_of}
+use Rattle.san_check.specs.build.Term.{rate_in, impulse_in, rates_in, impulses_in, rates_on, impulses_on, all_rates, all_impulses}
+use Rattle.san_check.specs.build.Atomic.{atomic_of, atomic_in, atomics_from}
 use Rattle.san_check.proofs.FreeLemmas.{Free, free_left, free_right, code_free, else_first, else_second, not_false, room}
 use Rattle.san_check.proofs.ListedLemmas.{or_left, or_right}
 

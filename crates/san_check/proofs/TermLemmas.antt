@@ -12,14 +12,14 @@ use Rattle.san_net.specs.declared.atomic.RateTerm.{RateTerm}
 use Rattle.san_net.specs.declared.atomic.ImpulseTerm.{ImpulseTerm}
 use Rattle.san_net.specs.Accepted.{IsAcceptedTerm}
 use Rattle.san_check.specs.Tables.{is_known}
-use Rattle.san_check.specs.Entries.{Entries, code, ◌else◌}
-use Rattle.san_check.specs.Expressions.{Places, whole, element, entry, expr_step, first_entries, expr_entries}
-use Rattle.san_check.specs.Activities.{Acts}
-use Rattle.san_check.specs.Rewards.{impulse_code, term_entries, terms_entries}
-use Rattle.san_check.specs.Cells.{CellTable}
-use Rattle.san_check.specs.Nodes.{number}
-use Rattle.san_check.specs.Formulas.{expr_of}
-use Rattle.san_check.specs.Terms.{rate_in, impulse_in, rates_in, impulses_in}
+use Rattle.san_check.specs.walk.Entries.{Entries, code, ◌else◌}
+use Rattle.san_check.specs.walk.Expression.{Places, whole, element, entry, expr_step, first_entries, expr_entries}
+use Rattle.san_check.specs.walk.Activity.{Acts}
+use Rattle.san_check.specs.walk.Reward.{impulse_code, term_entries, terms_entries}
+use Rattle.san_check.specs.build.Cells.{CellTable}
+use Rattle.san_check.specs.build.Composition.{number}
+use Rattle.san_check.specs.build.Expression.{expr_of}
+use Rattle.san_check.specs.build.Term.{rate_in, impulse_in, rates_in, impulses_in}
 use Rattle.san_check.proofs.FreeLemmas.{Free, free_left, free_right, code_free, else_first, else_second, not_false}
 use Rattle.san_check.proofs.ListedLemmas.{nothing_behind}
 use Rattle.san_check.proofs.TreeLemmas.{number_below}

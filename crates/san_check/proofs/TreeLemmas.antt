@@ -17,12 +17,12 @@ use Rattle.san_tree.specs.Places.{node_at}
 use Rattle.san_tree.specs.Trees.{named, IsNode, IsTree}
 use Rattle.san_check.specs.declared.walk.Fault.{Fault}
 use Rattle.san_check.specs.Tables.{Table, Pairs, is_known, declared, all_paired}
-use Rattle.san_check.specs.Entries.{code, ◌else◌, told}
-use Rattle.san_check.specs.Expressions.{Places}
-use Rattle.san_check.specs.Compositions.{Models, Children, child_code, model_code, children_entries, with_child, all_children, shown_by, first_place, parts_entries, share_code, shares_entries, with_share, shown_code, shown_entries, with_shown, name_code, name_of, known_of, model_entries, models_entries, with_model, all_models}
-use Rattle.san_check.specs.Rewards.{rewards_entries}
-use Rattle.san_check.specs.Texts.{syntax_entries, syntax_fault}
-use Rattle.san_check.specs.Nodes.{number, child_of, share_of, node_of, atomics_after, nodes_from, nodes_of, root_of}
+use Rattle.san_check.specs.walk.Entries.{code, ◌else◌, told}
+use Rattle.san_check.specs.walk.Expression.{Places}
+use Rattle.san_check.specs.walk.Composition.{Models, Children, child_code, model_code, children_entries, with_child, all_children, shown_by, first_place, parts_entries, share_code, shares_entries, with_share, shown_code, shown_entries, with_shown, name_code, name_of, known_of, model_entries, models_entries, with_model, all_models}
+use Rattle.san_check.specs.walk.Reward.{rewards_entries}
+use Rattle.san_check.specs.walk.Model.{syntax_entries, syntax_fault}
+use Rattle.san_check.specs.build.Composition.{number, child_of, share_of, node_of, atomics_after, nodes_from, nodes_of, root_of}
 use Rattle.san_check.proofs.TableLemmas.{declared_last, declared_known}
 use Rattle.san_check.proofs.FreeLemmas.{Free, free_of, free_left, free_right, code_free, else_second, not_false, room}
 

@@ -5,7 +5,7 @@ use Rattle.san_lex.specs.declared.sign.Keyword.TheVariants as keyword
 use Rattle.san_lex.specs.declared.sign.Mark.TheVariants as mark
 use Rattle.san_lex.specs.declared.sign.Sign.{Sign}
 use Rattle.san_lex.specs.declared.sign.Sign.TheVariants as sign
-use Rattle.san_lex.specs.Lexing.{Word, Number, Name, Fixed}
+use Rattle.san_lex.specs.Lexer.{Word, Number, Name, Fixed}
 use Rattle.san_text.specs.declared.text.Before.TheVariants as before
 use Rattle.san_text.specs.declared.syntax.Ast.{Ast, map-Ast}
 use Rattle.san_text.specs.declared.syntax.Ast.TheViews as ast
@@ -44,13 +44,13 @@ use Rattle.san_text.specs.Texts.{after_sign, counted_after, words_that_count, wo
 use Rattle.san_check.specs.declared.place.Place.{Place}
 use Rattle.san_check.specs.declared.walk.Fault.{Fault}
 use Rattle.san_check.specs.Tables.{Pairs, declared, all_paired}
-use Rattle.san_check.specs.Entries.{Entries, joined, first_fault}
-use Rattle.san_check.specs.Expressions.{Places, expr_step, first_entries, expr_entries, stmt_step, stmt_entries, stmts_entries}
-use Rattle.san_check.specs.Activities.{Acts, weight_entries, arc_entries, input_entries, output_entries, outputs_entries, case_entries, cases_entries, summed, table_entries, dist_entries, pair_entries, timing_entries, priority_entries, front_entries, act_entries}
-use Rattle.san_check.specs.Atomics.{length_entries, initial_entries, places_entries, with_place, counted, cells_of, all_places, acts_entries}
-use Rattle.san_check.specs.Compositions.{Models, Children, model_code, children_entries, with_child, all_children, parts_entries, first_place, shares_entries, with_share, shown_entries, with_shown, shown_by, model_entries, models_entries, with_model, all_models, known_as}
-use Rattle.san_check.specs.Rewards.{span_entries, is_at, term_entries, terms_entries, reward_entries, rewards_entries}
-use Rattle.san_check.specs.Texts.{syntax_entries, syntax_fault}
+use Rattle.san_check.specs.walk.Entries.{Entries, joined, first_fault}
+use Rattle.san_check.specs.walk.Expression.{Places, expr_step, first_entries, expr_entries, stmt_step, stmt_entries, stmts_entries}
+use Rattle.san_check.specs.walk.Activity.{Acts, weight_entries, arc_entries, input_entries, output_entries, outputs_entries, case_entries, cases_entries, summed, table_entries, dist_entries, pair_entries, timing_entries, priority_entries, front_entries, act_entries}
+use Rattle.san_check.specs.walk.Atomic.{length_entries, initial_entries, places_entries, with_place, counted, cells_of, all_places, acts_entries}
+use Rattle.san_check.specs.walk.Composition.{Models, Children, model_code, children_entries, with_child, all_children, parts_entries, first_place, shares_entries, with_share, shown_entries, with_shown, shown_by, model_entries, models_entries, with_model, all_models, known_as}
+use Rattle.san_check.specs.walk.Reward.{span_entries, is_at, term_entries, terms_entries, reward_entries, rewards_entries}
+use Rattle.san_check.specs.walk.Model.{syntax_entries, syntax_fault}
 
 -- as many of the words count, where none of `instant NAME` stands before or behind them
 pub record Counts (n : ℕ) (ws : List Word) : Type 0 where

@@ -4,8 +4,8 @@ use Rattle.std.specs.Option.{option_map}
 use Rattle.san_text.specs.declared.syntax.Syntax.{Syntax}
 use Rattle.san_check.specs.declared.tree.CheckFault.{CheckFault}
 use Rattle.san_check.specs.declared.tree.CheckFault.TheVariants as fault
-use Rattle.san_check.specs.Entries.{told}
-use Rattle.san_check.specs.Texts.{syntax_fault}
+use Rattle.san_check.specs.walk.Entries.{told}
+use Rattle.san_check.specs.walk.Model.{syntax_fault}
 
 abbrev pub Refuses : CheckFault → Syntax → Type 0
 Refuses (fault.Refused code word) s = option_map told (syntax_fault s) ≡ Some (record { code = code; word = word })

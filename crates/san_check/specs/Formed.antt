@@ -1,5 +1,6 @@
 -- What the grammar and the tokens give of a syntax that a text parses to.
 use Rattle.std.specs.Prelude.{◌≤◌, IsTrue, length, All, Option, Some, None}
+use Rattle.san_check.specs.declared.limits.TheConstants.{MAX_COUNT}
 use Rattle.san_text.specs.declared.syntax.ActDecl.{ActDecl}
 use Rattle.san_text.specs.declared.syntax.Timing.{Timing}
 use Rattle.san_text.specs.declared.syntax.Cases.{Cases}
@@ -25,7 +26,7 @@ IsFormedTiming (Some timing) = IsFormedDist timing.delay
 -- cases with weights are some, and no more of them than bytes of a text
 abbrev pub IsFormedCases : Cases → Type 0
 IsFormedCases (cases.Plain outputs) = Unit {0}
-IsFormedCases (cases.Weighted list) = (1 ≤ length list) × (length list ≤ 4294967295)
+IsFormedCases (cases.Weighted list) = (1 ≤ length list) × (length list ≤ MAX_COUNT)
 
 pub record IsFormedAct (act : ActDecl) : Type 0 where
   pub name : IsTrue (is_name act.name)

@@ -1,14 +1,17 @@
+//! Laws of the checks: what holds of a syntax without a fault.
+
+ghost use Rattle.san_base.specs.declared.limits.TheConstants.{MAX_TEXT_BYTES};
 ghost use Rattle.std.specs.Prelude.{All, ◌≡◌, ◌<◌, ◌≤◌, ℕ, List, None, Some, Ok, length};
 ghost use Rattle.san_text.specs.declared.text.Parsed.{Parsed};
 ghost use Rattle.san_check.specs.declared.walk.Fault.{Fault};
 ghost use Rattle.san_text.specs.declared.syntax.Syntax.{Syntax};
 ghost use Rattle.san_tree.specs.Places.{node_at, Keeps, SharesApart};
 ghost use Rattle.san_text.specs.Texts.{parsed, words_of};
-ghost use Rattle.san_check.specs.Texts.{syntax_entries, syntax_fault};
-ghost use Rattle.san_check.specs.Nodes.{nodes_of, shown_of};
+ghost use Rattle.san_check.specs.walk.Model.{syntax_entries, syntax_fault};
+ghost use Rattle.san_check.specs.build.Composition.{nodes_of, shown_of};
 ghost use Rattle.san_net.specs.Accepted.{IsAccepted};
 ghost use Rattle.san_check.specs.Formed.{IsFormed};
-ghost use Rattle.san_check.specs.Nets.{atomics_of};
+ghost use Rattle.san_check.specs.build.Atomic.{atomics_of};
 
 /// A law, which does nothing when it runs: in the tree of a syntax without a fault no two places of
 /// one child become one place.
@@ -43,6 +46,6 @@ pub fn entries_are_of_words()
 /// A law, which does nothing when it runs: a syntax that a text parses to has names of the form
 /// that a network takes, an entry in each table, and a case in each activity.
 pub fn parsed_is_formed()
-    ensures { (text : List ℕ) → (x : Parsed) → length text ≤ 67108864 → parsed text ≡ Ok x
+    ensures { (text : List ℕ) → (x : Parsed) → length text ≤ MAX_TEXT_BYTES → parsed text ≡ Ok x
         → IsFormed x.syntax }
 {}

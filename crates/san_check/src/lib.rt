@@ -2,25 +2,14 @@
 //! at which one fails.
 #![tactic(auto)]
 
-mod actions;
-mod acts;
-mod atomics;
-mod cells;
-mod compositions;
-mod elements;
-mod exprs;
-mod formulas;
+mod build;
+mod codes;
+mod known;
 mod laws;
+mod limits;
 mod model;
-mod models;
-mod nets;
-mod nodes;
 mod place;
-mod rewards;
-mod spans;
 mod table;
-mod terms;
-mod text;
 mod tree;
 mod walk;
 

@@ -1,16 +1,19 @@
-ghost use Rattle.std.specs.Prelude.{◌≡◌, None, IfOk};
-ghost use Rattle.san_check.specs.Texts.{syntax_fault};
-ghost use Rattle.san_check.specs.Answers.{Checks};
-ghost use Rattle.san_check.specs.Checked.{IsModel, IsRead};
-ghost use Rattle.san_check.specs.Composed.{IsComposed};
-ghost use Rattle.san_check.specs.Nodes.{nodes_of, root_of};
-ghost use Rattle.san_check.specs.Nets.{atomics_of};
-ghost use Rattle.san_check.specs.Spans.{rewards_of};
-ghost use Rattle.san_check.specs.Cells.{elements_of};
+//! A model that passed every check, and the checks as a whole.
 
-use crate::elements::cells_of;
-use crate::nets::atomics_of;
-use crate::spans::rewards_of;
+ghost use Rattle.std.specs.Prelude.{◌≡◌, None, IfOk};
+ghost use Rattle.san_check.specs.walk.Model.{syntax_fault};
+ghost use Rattle.san_check.specs.Answers.{Checks};
+ghost use Rattle.san_check.specs.Checked.{IsRead};
+ghost use Rattle.san_check.specs.inner.Models.{IsModel};
+ghost use Rattle.san_check.specs.Composed.{IsComposed};
+ghost use Rattle.san_check.specs.build.Composition.{nodes_of, root_of};
+ghost use Rattle.san_check.specs.build.Atomic.{atomics_of};
+ghost use Rattle.san_check.specs.build.Reward.{rewards_of};
+ghost use Rattle.san_check.specs.build.Cells.{elements_of};
+
+use crate::build::atomic::atomics_of;
+use crate::build::element::cells_of;
+use crate::build::reward::rewards_of;
 use crate::tree::{CheckFault, tree_of};
 use san_base::{Items, Name, NoMemory, Shared};
 use san_net::{Atomic, Reward};
@@ -45,12 +48,14 @@ impl Model {
         self.atomics.as_slice()
     }
 
+    /// The composition tree.
     pub fn tree(&self) -> &Tree
         ensures { result.now ≡ self.now.tree }
     {
         &self.tree
     }
 
+    /// The rewards, in the order of declaration.
     pub fn rewards(&self) -> &[Reward]
         ensures { result.now ≡ self.now.rewards }
     {
@@ -86,10 +91,8 @@ pub fn check(alloc: Global, syntax: &Syntax) -> Result<Model, CheckFault>
     ensures rewards { IfOk result (λ m. m.rewards ≡ rewards_of syntax.now) }
     ensures cells { IfOk result (λ m. m.cells ≡ elements_of syntax.now) }
 {
-    match tree_of(alloc, syntax) {
-        Ok(tree) => with_tree(alloc, syntax, tree),
-        Err(fault) => Err(fault),
-    }
+    let tree = tree_of(alloc, syntax)?;
+    with_tree(alloc, syntax, tree)
 }
 
 type Parts = (
@@ -128,14 +131,12 @@ fn with_tree(alloc: Global, syntax: &Syntax, tree: Tree) -> Result<Model, CheckF
     ensures rewards { IfOk result (λ m. m.rewards ≡ rewards_of syntax.now) }
     ensures cells { IfOk result (λ m. m.cells ≡ elements_of syntax.now) }
 {
-    match parts_of(alloc, syntax) {
-        Ok((system, atomics, rewards, cells)) => Ok(Model {
-            system,
-            atomics,
-            tree,
-            rewards,
-            cells,
-        }),
-        Err(_) => Err(CheckFault::NoMemory),
-    }
+    let (system, atomics, rewards, cells) = parts_of(alloc, syntax)?;
+    Ok(Model {
+        system,
+        atomics,
+        tree,
+        rewards,
+        cells,
+    })
 }

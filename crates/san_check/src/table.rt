@@ -1,8 +1,11 @@
+//! What names stand for, found by hashing.
+
 ghost use Rattle.std.specs.Prelude.{◌≡◌, [], IfOk, OnOk};
 ghost use Rattle.std.specs.Option.{option_copied};
-ghost use Rattle.san_check.specs.Nodes.{number};
+ghost use Rattle.san_check.specs.build.Composition.{number};
 ghost use Rattle.san_check.specs.Tables.{found, declared, has_pair, paired, is_known};
 
+use crate::limits::MAX_COUNT;
 use indexmap::{IndexMap, IndexSet};
 use san_base::NoMemory;
 use std::alloc::Global;
@@ -26,7 +29,7 @@ impl<'a, V> Model for Table<'a, V> {
 }
 
 impl<'a, V> Table<'a, V> {
-    pub fn new(alloc: Global) -> Table<'a, V>
+    pub(crate) fn new(alloc: Global) -> Table<'a, V>
         ensures { result ≡ [] }
     {
         Table {
@@ -34,29 +37,32 @@ impl<'a, V> Table<'a, V> {
         }
     }
 
-    pub fn find(&self, name: &'a [u8]) -> Option<&V>
+    pub(crate) fn find(&self, name: &'a [u8]) -> Option<&V>
         ensures { option_copied result ≡ found self.now name.now }
     {
         self.known.get(&name)
     }
 
-    pub fn is_known(&self, name: &'a [u8]) -> bool
+    pub(crate) fn is_known(&self, name: &'a [u8]) -> bool
         ensures { result ≡ is_known self.now name.now }
     {
         self.known.contains_key(&name)
     }
 
     /// The number of a name in the order of declaration, or 0 where it isn't known.
-    pub fn number(&self, name: &'a [u8]) -> u32
+    pub(crate) fn number(&self, name: &'a [u8]) -> u32
         ensures { result ≡ number self.now name.now }
     {
-        self.known.get_index_of(&name).unwrap_or(0).min(4294967295) as u32
+        self.known
+            .get_index_of(&name)
+            .unwrap_or(0)
+            .min(MAX_COUNT as usize) as u32
     }
 }
 
 impl<'a, V: Drop> Table<'a, V> {
     #[tactic(auto, using(crate::proofs::TableLemmas::declared_known))]
-    pub fn declare(&mut self, name: &'a [u8], value: V) -> Result<(), NoMemory>
+    pub(crate) fn declare(&mut self, name: &'a [u8], value: V) -> Result<(), NoMemory>
         ensures { OnOk result (self.new ≡ declared self.old name.now value) }
     {
         if self.is_known(name) {
@@ -87,7 +93,7 @@ impl<'a, 'b, V> Model for Index<'a, 'b, V> {
 }
 
 impl<'a, 'b, V> Index<'a, 'b, V> {
-    pub fn new(alloc: Global) -> Index<'a, 'b, V>
+    pub(crate) fn new(alloc: Global) -> Index<'a, 'b, V>
         ensures { result ≡ [] }
     {
         Index {
@@ -95,27 +101,30 @@ impl<'a, 'b, V> Index<'a, 'b, V> {
         }
     }
 
-    pub fn find(&self, name: &'a [u8]) -> Option<&'b V>
+    pub(crate) fn find(&self, name: &'a [u8]) -> Option<&'b V>
         ensures { option_copied result ≡ found self.now name.now }
     {
         self.known.get(&name).copied()
     }
 
-    pub fn is_known(&self, name: &'a [u8]) -> bool
+    pub(crate) fn is_known(&self, name: &'a [u8]) -> bool
         ensures { result ≡ is_known self.now name.now }
     {
         self.known.contains_key(&name)
     }
 
     /// The number of a name in the order of declaration, or 0 where it isn't known.
-    pub fn number(&self, name: &'a [u8]) -> u32
+    pub(crate) fn number(&self, name: &'a [u8]) -> u32
         ensures { result ≡ number self.now name.now }
     {
-        self.known.get_index_of(&name).unwrap_or(0).min(4294967295) as u32
+        self.known
+            .get_index_of(&name)
+            .unwrap_or(0)
+            .min(MAX_COUNT as usize) as u32
     }
 
     #[tactic(auto, using(crate::proofs::TableLemmas::declared_known))]
-    pub fn declare(&mut self, name: &'a [u8], value: &'b V) -> Result<(), NoMemory>
+    pub(crate) fn declare(&mut self, name: &'a [u8], value: &'b V) -> Result<(), NoMemory>
         ensures { OnOk result (self.new ≡ declared self.old name.now value.now) }
     {
         if self.is_known(name) {
@@ -141,7 +150,7 @@ impl<'a> Model for Pairs<'a> {
 }
 
 impl<'a> Pairs<'a> {
-    pub fn new(alloc: Global) -> Pairs<'a>
+    pub(crate) fn new(alloc: Global) -> Pairs<'a>
         ensures { result ≡ [] }
     {
         Pairs {
@@ -149,14 +158,14 @@ impl<'a> Pairs<'a> {
         }
     }
 
-    pub fn has(&self, first: &'a [u8], second: &'a [u8]) -> bool
+    pub(crate) fn has(&self, first: &'a [u8], second: &'a [u8]) -> bool
         ensures { result ≡ has_pair self.now (first.now, second.now) }
     {
         self.known.contains(&(first, second))
     }
 
     #[tactic(auto, unfolding(crate::specs::Tables::paired))]
-    pub fn add(&mut self, first: &'a [u8], second: &'a [u8]) -> Result<(), NoMemory>
+    pub(crate) fn add(&mut self, first: &'a [u8], second: &'a [u8]) -> Result<(), NoMemory>
         ensures { OnOk result (self.new ≡ paired self.old (first.now, second.now)) }
     {
         self.known.insert((first, second))?;

@@ -1,13 +1,17 @@
-ghost use Rattle.std.specs.Prelude.{◌≡◌, [], None, IfOk};
-ghost use Rattle.san_check.specs.Compositions.{all_models};
-ghost use Rattle.san_check.specs.Texts.{syntax_fault};
-ghost use Rattle.san_check.specs.Answers.{Checks};
-ghost use Rattle.san_check.specs.Nodes.{nodes_of, root_of};
+//! The composition tree of a syntax without a fault.
 
-use crate::models::Known;
-use crate::nodes::nodes_of;
+ghost use Rattle.std.specs.Prelude.{◌≡◌, [], None, IfOk};
+ghost use Rattle.san_check.specs.declared.tree.CheckFault.TheVariants.{NoMemory as Memory};
+ghost use Rattle.san_check.specs.walk.Composition.{all_models};
+ghost use Rattle.san_check.specs.walk.Model.{syntax_fault};
+ghost use Rattle.san_check.specs.Answers.{Checks};
+ghost use Rattle.san_check.specs.build.Composition.{nodes_of, root_of};
+
+use crate::build::composition::nodes_of;
+use crate::known::Known;
 use crate::table::Table;
-use crate::text::walked;
+use crate::walk::model::walked;
+use san_base::NoMemory;
 use san_text::Syntax;
 use san_tree::Tree;
 use std::alloc::Global;
@@ -23,25 +27,32 @@ pub enum CheckFault {
     NoMemory,
 }
 
+impl From<NoMemory> for CheckFault {
+    ghost from_gives = { λ _ fault. fault ≡ Memory };
+
+    fn from(_error: NoMemory) -> CheckFault {
+        CheckFault::NoMemory
+    }
+}
+
 /// The composition tree of a syntax that passes every check. Own rules.
 #[tactic(auto, using(crate::proofs::TreeLemmas::passes))]
-pub fn tree_of(alloc: Global, syntax: &Syntax) -> Result<Tree, CheckFault>
+pub(crate) fn tree_of(alloc: Global, syntax: &Syntax) -> Result<Tree, CheckFault>
     ensures checks { Checks result syntax.now }
     ensures nodes { IfOk result (λ tree. tree.nodes ≡ nodes_of syntax.now) }
     ensures root { IfOk result (λ tree. tree.root ≡ root_of syntax.now) }
 {
-    match walked(alloc, syntax) {
-        Ok((Some(fault), _)) => Err(CheckFault::Refused {
+    match walked(alloc, syntax)? {
+        (Some(fault), _) => Err(CheckFault::Refused {
             code: fault.code,
             word: fault.word,
         }),
-        Ok((None, models)) => made(alloc, &models, syntax),
-        Err(_) => Err(CheckFault::NoMemory),
+        (None, models) => made(alloc, &models, syntax),
     }
 }
 
 /// The tree of a syntax without a fault, whose models these are.
-#[tactic(auto, unfolding(crate::specs::Nodes::nodes_of, crate::specs::Nodes::root_of))]
+#[tactic(auto, unfolding(crate::specs::build::Composition::nodes_of, crate::specs::build::Composition::root_of))]
 fn made<'a>(
     alloc: Global,
     models: &Table<'a, Known<'a>>,
@@ -53,11 +64,9 @@ fn made<'a>(
     ensures nodes { IfOk result (λ tree. tree.nodes ≡ nodes_of syntax.now) }
     ensures root { IfOk result (λ tree. tree.root ≡ root_of syntax.now) }
 {
-    match nodes_of(alloc, models, syntax.models.as_slice()) {
-        Ok(nodes) => Ok(Tree {
-            nodes,
-            root: models.number(syntax.system.as_bytes()),
-        }),
-        Err(_) => Err(CheckFault::NoMemory),
-    }
+    let nodes = nodes_of(alloc, models, syntax.models.as_slice())?;
+    Ok(Tree {
+        nodes,
+        root: models.number(syntax.system.as_bytes()),
+    })
 }

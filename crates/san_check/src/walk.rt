@@ -1,5 +1,15 @@
+//! Finding the first fault of a syntax: a walk over its names and numbers in text order.
+
 ghost use Rattle.std.specs.Prelude.{◌≡◌, zero, None};
-ghost use Rattle.san_check.specs.Entries.{code, seen, ◌else◌};
+ghost use Rattle.san_check.specs.walk.Entries.{code, ◌else◌};
+ghost use Rattle.san_check.specs.inner.Walks.{seen};
+
+pub(crate) mod activity;
+pub(crate) mod atomic;
+pub(crate) mod composition;
+pub(crate) mod expression;
+pub(crate) mod model;
+pub(crate) mod reward;
 
 /// A code and the word at which it holds, a number among the names and numbers of the text.
 #[derive(Clone, Copy, Debug, PartialEq, Eq)]
@@ -33,7 +43,7 @@ impl Walk {
     }
 
     /// Walks one word, with the least code that holds there.
-    #[tactic(auto, unfolding(crate::specs::Entries::seen))]
+    #[tactic(auto, unfolding(crate::specs::inner::Walks::seen))]
     pub fn see(&mut self, code: Option<u32>)
         ensures { self.new ≡ seen self.old code }
     {

@@ -6,10 +6,11 @@ use Rattle.std.proofs.lemmas.List.{map-append}
 use Rattle.std.proofs.lemmas.Option.{slice_get-get_or}
 use Rattle.san_check.specs.declared.model.Model.{Model}
 use Rattle.san_flat.proofs.LeafLemmas.{home-found}
-use Rattle.san_flat.specs.Homes.{Home, homes_in, same}
-use Rattle.san_flat.specs.Networks.{homes_of, leaves_of, network_in, network_of_model, parts_from, value_at, values_of}
-use Rattle.san_flat.specs.Sightings.{AreAmong, IsSeen, picked}
-use Rattle.san_flat.specs.Texts.{path_text}
+use Rattle.san_flat.specs.Homes.{CellHome, homes_in, same}
+use Rattle.san_flat.specs.Networks.{network_in, network_of_model, value_at}
+use Rattle.san_flat.specs.inner.Models.{homes_of, leaves_of, parts_from, values_of}
+use Rattle.san_flat.specs.inner.Sightings.{AreAmong, IsSeen, picked}
+use Rattle.san_flat.specs.Paths.{path_text}
 use Rattle.san_flat.specs.declared.seen.Seen.{Seen}
 use Rattle.san_net.specs.Network.{network_of}
 use Rattle.san_net.specs.Numbering.{firsts, is_often, often, ordered, repeated}
@@ -25,7 +26,7 @@ pub all_among : (m : Model) (leaves : List Instance) → leaves ≡ leaves_of m 
 all_among m leaves e = subst (All (λ leaf. AreAmong (homes_of m) (homes_in m.tree.nodes m.tree.root m.cells leaf))) (sym e) (among m)
 
 -- the values that are picked are those of what passes
-picked-twice : (f g : Home → ℕ) (ks : List Home) → picked true (map f ks) (map g ks) ≡ map g (filter (λ k. nat_eq (f k) 2) ks)
+picked-twice : (f g : CellHome → ℕ) (ks : List CellHome) → picked true (map f ks) (map g ks) ≡ map g (filter (λ k. nat_eq (f k) 2) ks)
 picked-twice f g [] = refl
 picked-twice f g (k ∷ ks) = by_test (nat_eq (f k) 2) (picked-twice f g ks)
   where
@@ -33,7 +34,7 @@ picked-twice f g (k ∷ ks) = by_test (nat_eq (f k) 2) (picked-twice f g ks)
     by_test true rest = ap (λ vs. g k ∷ vs) rest
     by_test false rest = rest
 
-picked-once : (f g : Home → ℕ) (ks : List Home) → picked false (map f ks) (map g ks) ≡ map g (filter (λ k. not (nat_eq (f k) 2)) ks)
+picked-once : (f g : CellHome → ℕ) (ks : List CellHome) → picked false (map f ks) (map g ks) ≡ map g (filter (λ k. not (nat_eq (f k) 2)) ks)
 picked-once f g [] = refl
 picked-once f g (k ∷ ks) = by_test (nat_eq (f k) 2) (picked-once f g ks)
   where
@@ -42,7 +43,7 @@ picked-once f g (k ∷ ks) = by_test (nat_eq (f k) 2) (picked-once f g ks)
     by_test false rest = ap (λ vs. g k ∷ vs) rest
 
 -- the initial values in the order of the places
-pub values-ordered : (homes : List Home) (initial : List ℕ) (s : Seen) → IsSeen homes initial s → picked true s.counts.items s.values.items ++ picked false s.counts.items s.values.items ≡ map (value_at homes initial) (ordered same homes)
+pub values-ordered : (homes : List CellHome) (initial : List ℕ) (s : Seen) → IsSeen homes initial s → picked true s.counts.items s.values.items ++ picked false s.counts.items s.values.items ≡ map (value_at homes initial) (ordered same homes)
 values-ordered homes initial s w =
     let f = often same homes in
     let g = value_at homes initial in

@@ -12,10 +12,11 @@ use Rattle.san_flat.proofs.ListLemmas.{get-map, some-inj}
 use Rattle.san_flat.proofs.NumberLemmas.{at-number, count-through}
 use Rattle.san_flat.proofs.SightLemmas.{eq-seen}
 use Rattle.san_check.specs.declared.model.Model.{Model}
-use Rattle.san_flat.specs.Homes.{Home, homes_in, same, seen_as}
-use Rattle.san_flat.specs.Networks.{homes_from, slot_of, values_from, values_in}
-use Rattle.san_flat.specs.Sightings.{AreAmong, AreNumbers, Sees}
-use Rattle.san_flat.specs.declared.home.CellHome.{CellHome}
+use Rattle.san_flat.specs.Homes.{CellHome, homes_in, same, home_of_key}
+use Rattle.san_flat.specs.Networks.{slot_of, values_in}
+use Rattle.san_flat.specs.inner.Models.{homes_from, values_from}
+use Rattle.san_flat.specs.inner.Sightings.{AreAmong, AreNumbers, Sees}
+use Rattle.san_flat.specs.declared.home.HomeKey.{HomeKey}
 use Rattle.san_flat.specs.declared.numbers.Numbers.{Numbers}
 use Rattle.san_flat.specs.declared.seen.Seen.{Seen}
 use Rattle.san_net.specs.declared.part.Slot.{Slot}
@@ -25,39 +26,39 @@ use Rattle.san_net.proofs.SeenLemmas.{position-map}
 use Rattle.san_net.specs.Numbering.{IsTold, added, all_of, firsts, is_often, number, often, ranked, repeated}
 
 -- a home that is there is found at its position
-found-position : (keys : List CellHome) (h : CellHome) → list_any (same (seen_as h)) (map seen_as keys) ≡ true → position (eq-seen h) keys ≡ Some (position_or_len (same (seen_as h)) (map seen_as keys))
+found-position : (keys : List HomeKey) (h : HomeKey) → list_any (same (home_of_key h)) (map home_of_key keys) ≡ true → position (eq-seen h) keys ≡ Some (position_or_len (same (home_of_key h)) (map home_of_key keys))
 found-position keys h there =
-    let at = position-map seen_as (same (seen_as h)) keys in
-    let low = slice_get_within (map seen_as keys) (position_or_len (same (seen_as h)) (map seen_as keys)) (seen_as h) (at-number (map seen_as keys) (seen_as h) there) in
-    let long = length-map keys seen_as in
+    let at = position-map home_of_key (same (home_of_key h)) keys in
+    let low = slice_get_within (map home_of_key keys) (position_or_len (same (home_of_key h)) (map home_of_key keys)) (home_of_key h) (at-number (map home_of_key keys) (home_of_key h) there) in
+    let long = length-map keys home_of_key in
     ap (λ b. cond b (Some (position_or_len (eq-seen h) keys)) None) (le-leb (suc (position_or_len (eq-seen h) keys)) (length keys) (omega (arith, at, low, long)))
     ∙ ap Some (sym at)
 
-pub place-found : (homes : List Home) (n : Numbers) (h : CellHome) (at : ℕ) → AreNumbers homes n → list_any (same (seen_as h)) homes ≡ true → position (eq-seen h) n.homes.keys ≡ Some at → slice_index n.places.items at ≡ number same homes (seen_as h)
+pub place-found : (homes : List CellHome) (n : Numbers) (h : HomeKey) (at : ℕ) → AreNumbers homes n → list_any (same (home_of_key h)) homes ≡ true → position (eq-seen h) n.homes.keys ≡ Some at → slice_index n.places.items at ≡ number same homes (home_of_key h)
 place-found homes n h at a there is =
-    let own = a.all (seen_as h) ∙ there in
+    let own = a.all (home_of_key h) ∙ there in
     let here = some-inj _ at (sym (found-position n.homes.keys h own) ∙ is) in
-    let stands = at-number (map seen_as n.homes.keys) (seen_as h) own in
+    let stands = at-number (map home_of_key n.homes.keys) (home_of_key h) own in
     ap (λ xs. slice_index xs at) a.places
-    ∙ get_or_from_slice_get (map (number same homes) (map seen_as n.homes.keys)) at (number same homes (seen_as h)) 0
-    (get-map (number same homes) (map seen_as n.homes.keys) at (seen_as h) (ap (slice_get (map seen_as n.homes.keys)) (sym here) ∙ stands))
+    ∙ get_or_from_slice_get (map (number same homes) (map home_of_key n.homes.keys)) at (number same homes (home_of_key h)) 0
+    (get-map (number same homes) (map home_of_key n.homes.keys) at (home_of_key h) (ap (slice_get (map home_of_key n.homes.keys)) (sym here) ∙ stands))
 
-pub place-lost : (homes : List Home) (n : Numbers) (h : CellHome) → AreNumbers homes n → list_any (same (seen_as h)) homes ≡ true → position (eq-seen h) n.homes.keys ≡ None → ⊥
-place-lost homes n h a there is = true≢false (ap is_some (sym (found-position n.homes.keys h (a.all (seen_as h) ∙ there)) ∙ is))
+pub place-lost : (homes : List CellHome) (n : Numbers) (h : HomeKey) → AreNumbers homes n → list_any (same (home_of_key h)) homes ≡ true → position (eq-seen h) n.homes.keys ≡ None → ⊥
+place-lost homes n h a there is = true≢false (ap is_some (sym (found-position n.homes.keys h (a.all (home_of_key h) ∙ there)) ∙ is))
 
 -- so many were seen twice
-pub twice-counted : (homes : List Home) (ks : List Home) (counts : List ℕ) → IsTold same homes ks counts → count_by (λ n. nat_eq n 2) counts ≡ length (repeated same homes)
+pub twice-counted : (homes : List CellHome) (ks : List CellHome) (counts : List ℕ) → IsTold same homes ks counts → count_by (λ n. nat_eq n 2) counts ≡ length (repeated same homes)
 twice-counted homes ks counts t =
     ap (count_by (λ n. nat_eq n 2)) (t.counts ∙ ap (map (often same homes)) t.keys)
     ∙ count-through (often same homes) (λ n. nat_eq n 2) (is_often same homes) (firsts same homes) (λ _ _. refl)
     ∙ sym (length-filter (is_often same homes) (firsts same homes))
 
-pub numbers-are : (homes : List Home) (ks : List Home) (counts : List ℕ) (shared : ℕ) → IsTold same homes ks counts → shared ≡ length (repeated same homes) → ranked 0 shared counts ≡ map (number same homes) ks
+pub numbers-are : (homes : List CellHome) (ks : List CellHome) (counts : List ℕ) (shared : ℕ) → IsTold same homes ks counts → shared ≡ length (repeated same homes) → ranked 0 shared counts ≡ map (number same homes) ks
 numbers-are homes ks counts shared t e =
     ap (λ n. ranked 0 n counts) (e ∙ ap (λ xs. length (filter (is_often same homes) xs)) (sym t.keys)) ∙ told-ranked same same-equiv homes ks counts t
 
 -- one more slot
-pub slot-turn : {X : Type 0} (f : X → Home) (homes : List Home) (cells all : List X) (k : ℕ) (d : X) (h : Home) (s : Slot) (slots more : List Slot) → k < length cells → cells ≡ all → h ≡ f (get_or cells k d) → AreAmong homes (map f all) → (list_any (same h) homes ≡ true → s ≡ slot_of homes h) → more ≡ slots ++ s ∷ [] → slots ≡ map (slot_of homes) (map f (take k cells)) → more ≡ map (slot_of homes) (map f (take (k + 1) cells))
+pub slot-turn : {X : Type 0} (f : X → CellHome) (homes : List CellHome) (cells all : List X) (k : ℕ) (d : X) (h : CellHome) (s : Slot) (slots more : List Slot) → k < length cells → cells ≡ all → h ≡ f (get_or cells k d) → AreAmong homes (map f all) → (list_any (same h) homes ≡ true → s ≡ slot_of homes h) → more ≡ slots ++ s ∷ [] → slots ≡ map (slot_of homes) (map f (take k cells)) → more ≡ map (slot_of homes) (map f (take (k + 1) cells))
 slot-turn f homes cells all k d h s slots more l own is among slot added sofar =
     let at : slice_get (map f all) k ≡ Some h = ap (λ xs. slice_get (map f xs) k) (sym own) ∙ get-map f cells k (get_or cells k d) (slice_get-get_or cells k d l) ∙ ap Some (sym is) in
     let new : s ≡ slot_of homes (f (get_or cells k d)) = slot (among k h at) ∙ ap (slot_of homes) is in
@@ -79,24 +80,24 @@ rows-split f [] (suc k) = refl
 rows-split f (x ∷ xs) (suc k) = ap (λ r. f x ++ r) (rows-split f xs k) ∙ sym (append_assoc (f x) (all_of (map f (take k xs))) (all_of (map f (drop k xs))))
 
 -- the different homes only grow
-added-grows : (ks : List Home) (x : Home) → length ks ≤ length (added same ks x)
+added-grows : (ks : List CellHome) (x : CellHome) → length ks ≤ length (added same ks x)
 added-grows ks x = by_test (list_any (same x) ks)
   where
     by_test : (b : Bool) → length ks ≤ length (cond b ks (ks ++ x ∷ []))
     by_test true = omega arith
     by_test false = omega (arith, length-append ks (x ∷ []))
 
-fold-grows : (ks xs : List Home) → length ks ≤ length (fold (added same) ks xs)
+fold-grows : (ks xs : List CellHome) → length ks ≤ length (fold (added same) ks xs)
 fold-grows ks [] = omega arith
 fold-grows ks (x ∷ xs) = let rest = fold-grows (added same ks x) xs in omega (arith, added-grows ks x, rest)
 
-pub firsts-grow : (xs ys : List Home) (n : ℕ) → n < length (firsts same xs) → n < length (firsts same (xs ++ ys))
+pub firsts-grow : (xs ys : List CellHome) (n : ℕ) → n < length (firsts same xs) → n < length (firsts same (xs ++ ys))
 firsts-grow xs ys n l =
     let all = ap length (fold-append (added same) [] xs ys) in
     omega (arith, l, all, fold-grows (firsts same xs) ys)
 
 -- too many of the first cells of a row are too many
-pub row-many : {X : Type 0} (f : X → Home) (done : List Home) (cells all : List X) (k : ℕ) (d : X) (h : Home) (n : ℕ) → k < length cells → cells ≡ all → h ≡ f (get_or cells k d) → n < length (firsts same ((done ++ map f (take k cells)) ++ h ∷ [])) → n < length (firsts same (done ++ map f all))
+pub row-many : {X : Type 0} (f : X → CellHome) (done : List CellHome) (cells all : List X) (k : ℕ) (d : X) (h : CellHome) (n : ℕ) → k < length cells → cells ≡ all → h ≡ f (get_or cells k d) → n < length (firsts same ((done ++ map f (take k cells)) ++ h ∷ [])) → n < length (firsts same (done ++ map f all))
 row-many f done cells all k d h n l own is many =
     let front : map f (take (k + 1) cells) ≡ map f (take k cells) ++ h ∷ [] = ap (map f) (take_more cells k d l) ∙ map-append f (take k cells) (get_or cells k d ∷ []) ∙ ap (λ x. map f (take k cells) ++ x ∷ []) (sym is) in
     let whole : map f all ≡ map f (take (k + 1) cells) ++ map f (drop (k + 1) cells) = ap (map f) (sym own ∙ sym (take-append-drop (k + 1) cells)) ∙ map-append f (take (k + 1) cells) (drop (k + 1) cells) in
@@ -111,15 +112,15 @@ leaves-many m leaves k n many =
     subst (λ xs. n < length (firsts same xs)) (sym (rows-split row leaves k)) (firsts-grow (homes_from m (take k leaves)) (homes_from m (drop k leaves)) n many)
 
 -- one more leaf is seen
-pub leaves-seen : (m : Model) (leaves : List Instance) (k : ℕ) (i : Instance) (b : Bool) (old new : Seen) → k < length leaves → i ≡ get_or leaves k i → ((homes : List Home) (initial : List ℕ) → Sees true homes initial old → Sees b (homes ++ homes_in m.tree.nodes m.tree.root m.cells i) (initial ++ values_in m.atomics i) new) → Sees true (homes_from m (take k leaves)) (values_from m (take k leaves)) old → Sees b (homes_from m (take (k + 1) leaves)) (values_from m (take (k + 1) leaves)) new
+pub leaves-seen : (m : Model) (leaves : List Instance) (k : ℕ) (i : Instance) (b : Bool) (old new : Seen) → k < length leaves → i ≡ get_or leaves k i → ((homes : List CellHome) (initial : List ℕ) → Sees true homes initial old → Sees b (homes ++ homes_in m.tree.nodes m.tree.root m.cells i) (initial ++ values_in m.atomics i) new) → Sees true (homes_from m (take k leaves)) (values_from m (take k leaves)) old → Sees b (homes_from m (take (k + 1) leaves)) (values_from m (take (k + 1) leaves)) new
 leaves-seen m leaves k i b old new l is more sofar =
     let seen = more (homes_from m (take k leaves)) (values_from m (take k leaves)) sofar in
     let homes = sym (rows-more (homes_in m.tree.nodes m.tree.root m.cells) leaves k i l is) in
     let values = sym (rows-more (values_in m.atomics) leaves k i l is) in
     subst (λ vs. Sees b (homes_from m (take (k + 1) leaves)) vs new) values (subst (λ hs. Sees b hs (values_from m (take k leaves) ++ values_in m.atomics i) new) homes seen)
 
-pub all-fit : (b : Bool) (homes : List Home) (initial : List ℕ) (s : Seen) → b ≡ true → Sees b homes initial s → Sees true homes initial s
+pub all-fit : (b : Bool) (homes : List CellHome) (initial : List ℕ) (s : Seen) → b ≡ true → Sees b homes initial s → Sees true homes initial s
 all-fit b homes initial s e h = subst (λ c. Sees c homes initial s) e h
 
-pub too-many : (b : Bool) (homes : List Home) (initial : List ℕ) (s : Seen) → b ≡ false → Sees b homes initial s → 65536 < length (firsts same homes)
+pub too-many : (b : Bool) (homes : List CellHome) (initial : List ℕ) (s : Seen) → b ≡ false → Sees b homes initial s → 65536 < length (firsts same homes)
 too-many b homes initial s e h = subst (λ c. Sees c homes initial s) e h

@@ -9,9 +9,11 @@ use Rattle.san_check.specs.declared.model.Model.{Model}
 use Rattle.san_flat.proofs.LeafLemmas.{Composes, placed}
 use Rattle.san_flat.proofs.NetworkLemmas.{is-network}
 use Rattle.san_flat.proofs.PropLemmas.{network-prop}
-use Rattle.san_flat.specs.Networks.{act_count, atomic_at, leaf_count, leaves_of, network_of_model, place_count}
+use Rattle.san_flat.specs.Networks.{atomic_at, leaf_count, network_of_model}
+use Rattle.san_flat.specs.inner.Models.{act_count, place_count}
+use Rattle.san_flat.specs.inner.Models.{leaves_of}
 use Rattle.san_flat.specs.Homes.{cells_at}
-use Rattle.san_flat.specs.Sightings.{IsEven}
+use Rattle.san_flat.specs.inner.Sightings.{IsEven}
 use Rattle.san_net.specs.Laid.{IsNetwork}
 
 evens : (m : Model) → Composes m → leaf_count m ≤ 4096 → All (IsEven m) (leaves_of m)

@@ -10,13 +10,15 @@ use Rattle.san_flat.proofs.HomeLemmas.{home_near, same-equiv, or-true}
 use Rattle.san_flat.proofs.ListLemmas.{apart-map, some-inj}
 use Rattle.san_flat.proofs.TreePaths.{IsPath, paths-are}
 use Rattle.san_check.specs.Composed.{IsComposed}
-use Rattle.san_flat.specs.Homes.{Home, cells_at, home_of, homes_in, rows_of, same}
-use Rattle.san_flat.specs.Networks.{atomic_at, leaf_count, leaves_of, no_atomic, values_in}
+use Rattle.san_flat.specs.Homes.{CellHome, cells_at, home_of, homes_in, rows_of, same}
+use Rattle.san_flat.specs.Networks.{atomic_at, leaf_count, no_atomic, values_in}
+use Rattle.san_flat.specs.inner.Models.{leaves_of}
 use Rattle.san_net.specs.Apart.{AreApart}
 use Rattle.san_net.specs.Numbering.{all_of}
 use Rattle.san_tree.proofs.ApartLemmas.{home-apart}
 use Rattle.san_tree.proofs.ReachLemmas.{paths-lead}
-use Rattle.san_tree.specs.Places.{HomeValue, child_of, home, node_at, reached}
+use Rattle.san_tree.specs.Places.{child_of, home, node_at, reached}
+use Rattle.san_tree.specs.declared.home.Home.{Home}
 use Rattle.san_tree.specs.declared.instance.Instance.{Instance}
 use Rattle.san_tree.specs.declared.node.Node.{Node}
 use Rattle.san_tree.specs.declared.node.Node.TheVariants.{Leaf}
@@ -42,10 +44,10 @@ path-within nodes n (c ∷ path) h = path-within nodes (child_of (node_at nodes 
 pub all-at : {X : Type 0} (P : X → Type 0) (xs : List X) → All P xs → (n : ℕ) (x : X) → slice_get xs n ≡ Some x → P x
 all-at P xs h n x at = subst P (get_or_from_slice_get xs n x x at) (h n x (slice_get_within xs n x at))
 
-abbrev end_with : ℕ → ℕ → HomeValue
+abbrev end_with : ℕ → ℕ → Home
 end_with depth place = record { depth = depth; place = place }
 
-same-end : (a b : HomeValue) → a.depth ≡ b.depth → a.place ≡ b.place → a ≡ b
+same-end : (a b : Home) → a.depth ≡ b.depth → a.place ≡ b.place → a ≡ b
 same-end a b d p = ap (λ k. end_with k a.place) d ∙ ap (λ k. end_with b.depth k) p
 
 module _ (m : Model) (composed : Composes m) where
@@ -80,13 +82,13 @@ module _ (m : Model) (composed : Composes m) where
   row-apart i p =
       apart-map (home_of m.tree.nodes m.tree.root i.path) (cells_at m.cells i.atomic) (composed.rows i.atomic (atomic_at m.atomics i.atomic) (cells_at m.cells i.atomic) p.atomic p.cells).1 (λ _ _ a b _ _ e. homes-tell i.path a b e)
 
-found-at : (row : List Home) (j : ℕ) (h : Home) → slice_get row j ≡ Some h → list_any (same h) row ≡ true
+found-at : (row : List CellHome) (j : ℕ) (h : CellHome) → slice_get row j ≡ Some h → list_any (same h) row ≡ true
 found-at [] j h at = absurd cc
 found-at (x ∷ row) zero h at = ap (λ b. b || list_any (same h) row) (ap (same h) (some-inj x h at) ∙ same-equiv.refl h)
 found-at (x ∷ row) (suc j) h at = ap (λ b. same h x || b) (found-at row j h at) ∙ or-true (same h x)
 
 -- a leaf's homes are among all homes
-pub home-found : (nodes : List Node) (root : ℕ) (cells : List (List (ℕ × ℕ))) (leaves : List Instance) (n j : ℕ) (i : Instance) (h : Home) → slice_get leaves n ≡ Some i → slice_get (homes_in nodes root cells i) j ≡ Some h → list_any (same h) (all_of (rows_of nodes root cells leaves)) ≡ true
+pub home-found : (nodes : List Node) (root : ℕ) (cells : List (List (ℕ × ℕ))) (leaves : List Instance) (n j : ℕ) (i : Instance) (h : CellHome) → slice_get leaves n ≡ Some i → slice_get (homes_in nodes root cells i) j ≡ Some h → list_any (same h) (all_of (rows_of nodes root cells leaves)) ≡ true
 home-found nodes root cells [] n j i h at here = absurd cc
 home-found nodes root cells (k ∷ leaves) zero j i h at here =
     let row = homes_in nodes root cells k in

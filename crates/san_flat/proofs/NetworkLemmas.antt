@@ -15,9 +15,11 @@ use Rattle.san_flat.proofs.PartLemmas.{part-at, parts-acts, parts-long}
 use Rattle.san_flat.proofs.TextLemmas.{AreNamed, texts-tell, texts-unbroken}
 use Rattle.san_flat.proofs.TreePaths.{IsPath, paths-are}
 use Rattle.san_flat.proofs.ValueLemmas.{cell-valued}
-use Rattle.san_flat.specs.Homes.{Home, homes_in, rows_of, same}
-use Rattle.san_flat.specs.Networks.{act_count, atomic_at, homes_of, leaf_count, leaves_of, network_in, network_of_model, part_of, parts_from, place_count, slot_at, slot_of, value_at, values_of}
-use Rattle.san_flat.specs.Texts.{path_text}
+use Rattle.san_flat.specs.Homes.{CellHome, homes_in, rows_of, same}
+use Rattle.san_flat.specs.Networks.{atomic_at, leaf_count, network_in, network_of_model, slot_at, slot_of, value_at}
+use Rattle.san_flat.specs.inner.Models.{act_count, place_count}
+use Rattle.san_flat.specs.inner.Models.{homes_of, leaves_of, part_of, parts_from, values_of}
+use Rattle.san_flat.specs.Paths.{path_text}
 use Rattle.san_net.specs.Accepted.{IsAccepted, rewards_of}
 use Rattle.san_net.specs.Apart.{AreApart}
 use Rattle.san_net.specs.Laid.{EachPart, IsNetwork, IsSlotted, IsTagged, IsValued, MayBeTold, acts_of, all_places, is_blank, place_of}
@@ -47,10 +49,10 @@ slot-tagged shared place = by_test (leb_tells (suc place) shared)
     by_test (inr (t, l)) = subst (λ b. IsTagged shared (slot_by b place)) (sym t) (omega (arith, l))
 
 -- as many homes in order as different ones
-order-long : (xs : List Home) → length (ordered same xs) ≡ length (firsts same xs)
+order-long : (xs : List CellHome) → length (ordered same xs) ≡ length (firsts same xs)
 order-long xs = length-append (repeated same xs) (filter (λ k. not (is_often same xs k)) (firsts same xs)) ∙ length-filter_both (is_often same xs) (λ k. not (is_often same xs k)) (λ k. refl) (firsts same xs)
 
-slots-places : (xs row : List Home) → map place_of (map (slot_of xs) row) ≡ map (number same xs) row
+slots-places : (xs row : List CellHome) → map place_of (map (slot_of xs) row) ≡ map (number same xs) row
 slots-places xs [] = refl
 slots-places xs (h ∷ row) = ap (λ p. p ∷ map place_of (map (slot_of xs) row)) (slot-place (length (repeated same xs)) (number same xs h)) ∙ ap (λ ps. number same xs h ∷ ps) (slots-places xs row)
 
@@ -61,7 +63,7 @@ module _ (m : Model) (composed : Composes m) (few : leaf_count m ≤ 4096) where
   abbrev parts : List Part
   parts = parts_from m 0 0 leaves
 
-  abbrev homes : List Home
+  abbrev homes : List CellHome
   homes = homes_of m
 
   abbrev initial : List ℕ
@@ -76,7 +78,7 @@ module _ (m : Model) (composed : Composes m) (few : leaf_count m ≤ 4096) where
       let same : part_of m n (acts_of (take n parts)) is.instance ≡ p = sym (is.is ∙ ap (λ k. part_of m k (0 + acts_of (take n parts)) is.instance) leaf ∙ ap (λ k. part_of m n k is.instance) first) in
       subst (Holds n) same (h n is.instance is.there (placed m composed few n is.instance is.there))
 
-  found : (n j : ℕ) (i : Instance) (h : Home) → slice_get leaves n ≡ Some i → slice_get (homes_in m.tree.nodes m.tree.root m.cells i) j ≡ Some h → list_any (same h) homes ≡ true
+  found : (n j : ℕ) (i : Instance) (h : CellHome) → slice_get leaves n ≡ Some i → slice_get (homes_in m.tree.nodes m.tree.root m.cells i) j ≡ Some h → list_any (same h) homes ≡ true
   found n j i h at here = home-found m.tree.nodes m.tree.root m.cells leaves n j i h at here
 
   slotted : (n : ℕ) (i : Instance) → slice_get leaves n ≡ Some i → IsPlaced m i → IsSlotted (length (repeated same homes)) (part_of m n (acts_of (take n parts)) i)

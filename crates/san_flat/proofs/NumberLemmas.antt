@@ -8,7 +8,7 @@ use Rattle.std.proofs.lemmas.Bool.{cases_Bool, eq-eqb, eqb-true}
 use Rattle.std.proofs.lemmas.List.Folds.{list_any-append}
 use Rattle.std.proofs.lemmas.List.Sums.{sum_by-append, sum_by-cons}
 use Rattle.san_flat.proofs.HomeLemmas.{and-true, same-equiv, or-true}
-use Rattle.san_flat.specs.Homes.{Home, same}
+use Rattle.san_flat.specs.Homes.{CellHome, same}
 use Rattle.san_net.proofs.CountingLemmas.{told-range}
 use Rattle.san_net.proofs.RenumberLemmas.{have-all, ordered-map}
 use Rattle.san_net.proofs.RowLemmas.{tells}
@@ -24,37 +24,37 @@ paths-same (x ∷ xs) (y ∷ ys) h =
     let two = and-true (nat_eq x y) (pointwise nat_eq xs ys) h in
     ap (λ k. k ∷ xs) (eqb-true x y two.0) ∙ ap (λ ks. y ∷ ks) (paths-same xs ys two.1)
 
-abbrev home_with : List ℕ → ℕ → ℕ → Home
+abbrev home_with : List ℕ → ℕ → ℕ → CellHome
 home_with path place element = record { path = path; place = place; element = element }
 
-pub same-is : (a b : Home) → same a b ≡ true → a ≡ b
+pub same-is : (a b : CellHome) → same a b ≡ true → a ≡ b
 same-is a b h =
     let two = and-true (pointwise nat_eq a.path b.path) (nat_eq a.place b.place && nat_eq a.element b.element) h in
     let more = and-true (nat_eq a.place b.place) (nat_eq a.element b.element) two.1 in
     ap (λ p. home_with p a.place a.element) (paths-same a.path b.path two.0) ∙ ap (λ p. home_with b.path p a.element) (eqb-true a.place b.place more.0) ∙ ap (λ e. home_with b.path b.place e) (eqb-true a.element b.element more.1)
 
 -- homes seen one by one: what is known of them in the end
-record Told (xs : List Home) : Type 0 where
-  keys : List Home
+record Told (xs : List CellHome) : Type 0 where
+  keys : List CellHome
   counts : List ℕ
   told : IsTold same xs keys counts
 
-told-from : (done ks : List Home) (counts : List ℕ) (xs : List Home) → IsTold same done ks counts → Told (done ++ xs)
+told-from : (done ks : List CellHome) (counts : List ℕ) (xs : List CellHome) → IsTold same done ks counts → Told (done ++ xs)
 told-from done ks counts [] t = subst Told (sym (append-nil done)) (record { keys = ks; counts = counts; told = t })
 told-from done ks counts (x ∷ xs) t = subst Told (append_assoc done (x ∷ []) xs) (by_test (λ k c n. told-from (done ++ x ∷ []) k c xs n) (cases_Bool (list_any (same x) ks)))
   where
-    by_test : ((k : List Home) (c : List ℕ) → IsTold same (done ++ x ∷ []) k c → Told ((done ++ x ∷ []) ++ xs)) → (list_any (same x) ks ≡ true) ⊎ (list_any (same x) ks ≡ false) → Told ((done ++ x ∷ []) ++ xs)
+    by_test : ((k : List CellHome) (c : List ℕ) → IsTold same (done ++ x ∷ []) k c → Told ((done ++ x ∷ []) ++ xs)) → (list_any (same x) ks ≡ true) ⊎ (list_any (same x) ks ≡ false) → Told ((done ++ x ∷ []) ++ xs)
     by_test rest (inl there) = rest _ _ (told-again same same-equiv done ks counts x there t)
     by_test rest (inr new) = rest _ _ (told-new same same-equiv done ks counts x new t)
 
-told-all : (xs : List Home) → Told xs
+told-all : (xs : List CellHome) → Told xs
 told-all xs = told-from [] [] [] xs (record { keys = refl; counts = refl; differ = tt; all = λ k. refl })
 
 -- the two groups of an order have what its items have
-any-split : (t p : Home → Bool) (xs : List Home) → list_any t (filter p xs ++ filter (λ k. not (p k)) xs) ≡ list_any t xs
+any-split : (t p : CellHome → Bool) (xs : List CellHome) → list_any t (filter p xs ++ filter (λ k. not (p k)) xs) ≡ list_any t xs
 any-split t p xs = list_any-append t (filter p xs) (filter (λ k. not (p k)) xs) ∙ both xs
   where
-    step : (b e : Bool) (x : Home) (ks ns : List Home) → (list_any t ks || list_any t ns) ≡ e → (list_any t (cond b (x ∷ ks) ks) || list_any t (cond (not b) (x ∷ ns) ns)) ≡ (t x || e)
+    step : (b e : Bool) (x : CellHome) (ks ns : List CellHome) → (list_any t ks || list_any t ns) ≡ e → (list_any t (cond b (x ∷ ks) ks) || list_any t (cond (not b) (x ∷ ns) ns)) ≡ (t x || e)
     step true e x ks ns h = or_assoc (t x) (list_any t ks) (list_any t ns) ∙ ap (λ z. t x || z) h
       where
         or_assoc : (a b c : Bool) → ((a || b) || c) ≡ (a || (b || c))
@@ -67,25 +67,25 @@ any-split t p xs = list_any-append t (filter p xs) (filter (λ k. not (p k)) xs)
         or_swap true false c = refl
         or_swap false b c = refl
 
-    both : (ys : List Home) → (list_any t (filter p ys) || list_any t (filter (λ k. not (p k)) ys)) ≡ list_any t ys
+    both : (ys : List CellHome) → (list_any t (filter p ys) || list_any t (filter (λ k. not (p k)) ys)) ≡ list_any t ys
     both [] = refl
     both (y ∷ ys) = step (p y) (list_any t ys) y (filter p ys) (filter (λ k. not (p k)) ys) (both ys)
 
-pub in-ordered : (xs : List Home) (k : Home) → list_any (same k) xs ≡ true → list_any (same k) (ordered same xs) ≡ true
+pub in-ordered : (xs : List CellHome) (k : CellHome) → list_any (same k) xs ≡ true → list_any (same k) (ordered same xs) ≡ true
 in-ordered xs k h =
     let t = (told-all xs).told in
     any-split (same k) (is_often same xs) (firsts same xs) ∙ ap (list_any (same k)) (sym t.keys) ∙ t.all k ∙ h
 
 -- the numbers in order count from 0
-pub numbers-count : (xs : List Home) → ordered nat_eq (map (number same xs) xs) ≡ counting 0 (length (ordered same xs))
+pub numbers-count : (xs : List CellHome) → ordered nat_eq (map (number same xs) xs) ≡ counting 0 (length (ordered same xs))
 numbers-count xs =
-    let Has : Home → Type 0 = λ h. list_any (same h) (ordered same xs) ≡ true in
-    let tell : (h k : Home) → Has h → Has k → nat_eq (number same xs h) (number same xs k) ≡ same h k = λ h k m n. tells same same-equiv (ordered same xs) h k m n in
+    let Has : CellHome → Type 0 = λ h. list_any (same h) (ordered same xs) ≡ true in
+    let tell : (h k : CellHome) → Has h → Has k → nat_eq (number same xs h) (number same xs k) ≡ same h k = λ h k m n. tells same same-equiv (ordered same xs) h k m n in
     ordered-map same same-equiv nat_eq (number same xs) Has tell xs (have-all same same-equiv nat_eq (number same xs) Has tell xs (in-ordered xs))
     ∙ told-range same same-equiv xs (told-all xs).keys (told-all xs).counts (told-all xs).told
 
 -- as many of some numbers pass a test as of the homes that have them pass theirs
-pub count-through : (f : Home → ℕ) (p : ℕ → Bool) (q : Home → Bool) (zs : List Home) → ((k : Home) → list_any (same k) zs ≡ true → p (f k) ≡ q k) → count_by p (map f zs) ≡ count_by q zs
+pub count-through : (f : CellHome → ℕ) (p : ℕ → Bool) (q : CellHome → Bool) (zs : List CellHome) → ((k : CellHome) → list_any (same k) zs ≡ true → p (f k) ≡ q k) → count_by p (map f zs) ≡ count_by q zs
 count-through f p q [] h = refl
 count-through f p q (z ∷ zs) h =
     let front = sum_by-cons (λ w. none_of (p w)) (f z) (map f zs) in
@@ -128,12 +128,12 @@ module _ {X : Type 0} (p : X → Bool) where
       omega (arith, both, all-pass xs, none-pass xs)
 
 -- as many numbers are repeated as homes
-pub repeated-count : (xs : List Home) → length (repeated nat_eq (map (number same xs) xs)) ≡ length (repeated same xs)
+pub repeated-count : (xs : List CellHome) → length (repeated nat_eq (map (number same xs) xs)) ≡ length (repeated same xs)
 repeated-count xs =
-    let f : Home → ℕ = number same xs in
-    let Has : Home → Type 0 = λ h. list_any (same h) (ordered same xs) ≡ true in
-    let tell : (h k : Home) → Has h → Has k → nat_eq (f h) (f k) ≡ same h k = λ h k m n. tells same same-equiv (ordered same xs) h k m n in
-    let often : (k : Home) → Has k → is_often nat_eq (map f xs) (f k) ≡ is_often same xs k = λ k m. ap (λ n. nat_eq (min n 2) 2) (count-through f (nat_eq (f k)) (same k) xs (λ x t. tell k x m (in-ordered xs x t))) in
+    let f : CellHome → ℕ = number same xs in
+    let Has : CellHome → Type 0 = λ h. list_any (same h) (ordered same xs) ≡ true in
+    let tell : (h k : CellHome) → Has h → Has k → nat_eq (f h) (f k) ≡ same h k = λ h k m n. tells same same-equiv (ordered same xs) h k m n in
+    let often : (k : CellHome) → Has k → is_often nat_eq (map f xs) (f k) ≡ is_often same xs k = λ k m. ap (λ n. nat_eq (min n 2) 2) (count-through f (nat_eq (f k)) (same k) xs (λ x t. tell k x m (in-ordered xs x t))) in
     let order : ordered nat_eq (map f xs) ≡ map f (ordered same xs) = ordered-map same same-equiv nat_eq f Has tell xs (have-all same same-equiv nat_eq f Has tell xs (in-ordered xs)) in
     sym (pass-counted (is_often nat_eq (map f xs)) (firsts nat_eq (map f xs)))
     ∙ ap (count_by (is_often nat_eq (map f xs))) order
@@ -141,11 +141,11 @@ repeated-count xs =
     ∙ pass-counted (is_often same xs) (firsts same xs)
 
 -- homes that are there and have one number are one
-pub numbers-tell : (xs : List Home) (h k : Home) → list_any (same h) xs ≡ true → list_any (same k) xs ≡ true → number same xs h ≡ number same xs k → h ≡ k
+pub numbers-tell : (xs : List CellHome) (h k : CellHome) → list_any (same h) xs ≡ true → list_any (same k) xs ≡ true → number same xs h ≡ number same xs k → h ≡ k
 numbers-tell xs h k a b e = same-is h k (sym (tells same same-equiv (ordered same xs) h k (in-ordered xs h a) (in-ordered xs k b)) ∙ eq-eqb (number same xs h) (number same xs k) e)
 
 -- a home stands at its number in the order
-pub at-number : (ks : List Home) (h : Home) → list_any (same h) ks ≡ true → slice_get ks (position_or_len (same h) ks) ≡ Some h
+pub at-number : (ks : List CellHome) (h : CellHome) → list_any (same h) ks ≡ true → slice_get ks (position_or_len (same h) ks) ≡ Some h
 at-number [] h n = absurd (true≢false (sym n))
 at-number (k ∷ ks) h n = by_test (λ t. at-number ks h t) (cases_Bool (same h k))
   where

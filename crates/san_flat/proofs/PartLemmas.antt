@@ -4,7 +4,8 @@ use Rattle.std.specs.Prelude.{slice_get}
 use Rattle.std.proofs.lemmas.List.Sums.{sum_by-cons}
 use Rattle.san_check.specs.declared.model.Model.{Model}
 use Rattle.san_flat.proofs.ListLemmas.{some-inj}
-use Rattle.san_flat.specs.Networks.{acts_in, atomic_at, part_of, parts_from}
+use Rattle.san_flat.specs.Networks.{atomic_at}
+use Rattle.san_flat.specs.inner.Models.{acts_in, part_of, parts_from}
 use Rattle.san_net.specs.Laid.{acts_of}
 use Rattle.san_net.specs.declared.part.Part.{Part}
 use Rattle.san_tree.specs.declared.instance.Instance.{Instance}

@@ -5,16 +5,16 @@ use Rattle.std.specs.List.{list_any}
 use Rattle.std.proofs.lemmas.Bool.Decides.{leb_tells}
 use Rattle.std.proofs.lemmas.List.{length-map, map-append}
 use Rattle.san_flat.proofs.HomeLemmas.{same-equiv, or-true}
-use Rattle.san_flat.specs.Homes.{Home, same, seen_as}
+use Rattle.san_flat.specs.Homes.{CellHome, same, home_of_key}
 use Rattle.san_flat.specs.Networks.{value_at}
-use Rattle.san_flat.specs.Sightings.{IsSeen, Sees}
-use Rattle.san_flat.specs.declared.home.CellHome.{CellHome}
+use Rattle.san_flat.specs.inner.Sightings.{IsSeen, Sees}
+use Rattle.san_flat.specs.declared.home.HomeKey.{HomeKey}
 use Rattle.san_flat.specs.declared.seen.Seen.{Seen}
 use Rattle.san_net.proofs.SeenLemmas.{list_any-map, or-false}
 use Rattle.san_net.specs.Numbering.{firsts, often}
 
 -- a home that was there has the value that it had
-value-old : (homes : List Home) (initial : List ℕ) (h k : Home) (v : ℕ) → length homes ≡ length initial → list_any (same k) homes ≡ true → value_at (homes ++ h ∷ []) (initial ++ v ∷ []) k ≡ value_at homes initial k
+value-old : (homes : List CellHome) (initial : List ℕ) (h k : CellHome) (v : ℕ) → length homes ≡ length initial → list_any (same k) homes ≡ true → value_at (homes ++ h ∷ []) (initial ++ v ∷ []) k ≡ value_at homes initial k
 value-old [] initial h k v e there = absurd (true≢false (sym there))
 value-old (x ∷ homes) [] h k v e there = absurd (omega (arith, e))
 value-old (x ∷ homes) (w ∷ initial) h k v e there = by_test (same k x) (λ t. value-old homes initial h k v (omega (arith, e)) t) there
@@ -23,7 +23,7 @@ value-old (x ∷ homes) (w ∷ initial) h k v e there = by_test (same k x) (λ t
     by_test true rest t = refl
     by_test false rest t = rest t
 
-value-new : (homes : List Home) (initial : List ℕ) (k : Home) (v : ℕ) → length homes ≡ length initial → list_any (same k) homes ≡ false → value_at (homes ++ k ∷ []) (initial ++ v ∷ []) k ≡ v
+value-new : (homes : List CellHome) (initial : List ℕ) (k : CellHome) (v : ℕ) → length homes ≡ length initial → list_any (same k) homes ≡ false → value_at (homes ++ k ∷ []) (initial ++ v ∷ []) k ≡ v
 value-new [] [] k v e none = ap (λ b. cond b v 0) (same-equiv.refl k)
 value-new [] (w ∷ initial) k v e none = absurd (omega (arith, e))
 value-new (x ∷ homes) [] k v e none = absurd (omega (arith, e))
@@ -31,13 +31,13 @@ value-new (x ∷ homes) (w ∷ initial) k v e none =
     let two = or-false (same k x) (list_any (same k) homes) none in
     ap (λ b. cond b w (value_at (homes ++ k ∷ []) (initial ++ v ∷ []) k)) two.0 ∙ value-new homes initial k v (omega (arith, e)) two.1
 
-values-old : (homes : List Home) (initial : List ℕ) (h : Home) (v : ℕ) → length homes ≡ length initial → (ks : List Home) → ((k : Home) → list_any (same k) ks ≡ true → list_any (same k) homes ≡ true) → map (value_at (homes ++ h ∷ []) (initial ++ v ∷ [])) ks ≡ map (value_at homes initial) ks
+values-old : (homes : List CellHome) (initial : List ℕ) (h : CellHome) (v : ℕ) → length homes ≡ length initial → (ks : List CellHome) → ((k : CellHome) → list_any (same k) ks ≡ true → list_any (same k) homes ≡ true) → map (value_at (homes ++ h ∷ []) (initial ++ v ∷ [])) ks ≡ map (value_at homes initial) ks
 values-old homes initial h v e [] all = refl
 values-old homes initial h v e (k ∷ ks) all =
     ap (λ x. x ∷ map (value_at (homes ++ h ∷ []) (initial ++ v ∷ [])) ks) (value-old homes initial h k v e (all k (ap (λ b. b || list_any (same k) ks) (same-equiv.refl k))))
     ∙ ap (λ xs. value_at homes initial k ∷ xs) (values-old homes initial h v e ks (λ j t. all j (ap (λ b. same j k || b) t ∙ or-true (same j k))))
 
-pub even-push : (homes : List Home) (initial : List ℕ) (h : Home) (v : ℕ) → length homes ≡ length initial → length (homes ++ h ∷ []) ≡ length (initial ++ v ∷ [])
+pub even-push : (homes : List CellHome) (initial : List ℕ) (h : CellHome) (v : ℕ) → length homes ≡ length initial → length (homes ++ h ∷ []) ≡ length (initial ++ v ∷ [])
 even-push homes initial h v e = omega (arith, e, length-append homes (h ∷ []), length-append initial (v ∷ []))
 
 not-true : (b c : Bool) → b ≡ not c → b ≡ true → c ≡ false
@@ -48,51 +48,51 @@ not-false : (b c : Bool) → b ≡ not c → b ≡ false → c ≡ true
 not-false b true e t = refl
 not-false b false e t = absurd (true≢false (sym e ∙ t))
 
-abbrev pub eq-seen : CellHome → CellHome → Bool
-eq-seen a b = same (seen_as a) (seen_as b)
+abbrev pub eq-seen : HomeKey → HomeKey → Bool
+eq-seen a b = same (home_of_key a) (home_of_key b)
 
-pub inserted-new : (ks more : List CellHome) (h : CellHome) (b : Bool) → b ≡ not (list_any (eq-seen h) ks) → b ≡ true → more ≡ cond (list_any (eq-seen h) ks) ks (ks ++ h ∷ []) → (list_any (same (seen_as h)) (map seen_as ks) ≡ false) × (map seen_as more ≡ map seen_as ks ++ seen_as h ∷ [])
+pub inserted-new : (ks more : List HomeKey) (h : HomeKey) (b : Bool) → b ≡ not (list_any (eq-seen h) ks) → b ≡ true → more ≡ cond (list_any (eq-seen h) ks) ks (ks ++ h ∷ []) → (list_any (same (home_of_key h)) (map home_of_key ks) ≡ false) × (map home_of_key more ≡ map home_of_key ks ++ home_of_key h ∷ [])
 inserted-new ks more h b e t k =
     let none = not-true b (list_any (eq-seen h) ks) e t in
-    (list_any-map seen_as (same (seen_as h)) ks ∙ none, ap (map seen_as) (k ∙ ap (λ c. cond c ks (ks ++ h ∷ [])) none) ∙ map-append seen_as ks (h ∷ []))
+    (list_any-map home_of_key (same (home_of_key h)) ks ∙ none, ap (map home_of_key) (k ∙ ap (λ c. cond c ks (ks ++ h ∷ [])) none) ∙ map-append home_of_key ks (h ∷ []))
 
-pub inserted-old : (ks more : List CellHome) (h : CellHome) (b : Bool) → b ≡ not (list_any (eq-seen h) ks) → b ≡ false → more ≡ cond (list_any (eq-seen h) ks) ks (ks ++ h ∷ []) → (list_any (same (seen_as h)) (map seen_as ks) ≡ true) × (map seen_as more ≡ map seen_as ks)
+pub inserted-old : (ks more : List HomeKey) (h : HomeKey) (b : Bool) → b ≡ not (list_any (eq-seen h) ks) → b ≡ false → more ≡ cond (list_any (eq-seen h) ks) ks (ks ++ h ∷ []) → (list_any (same (home_of_key h)) (map home_of_key ks) ≡ true) × (map home_of_key more ≡ map home_of_key ks)
 inserted-old ks more h b e t k =
     let some = not-false b (list_any (eq-seen h) ks) e t in
-    (list_any-map seen_as (same (seen_as h)) ks ∙ some, ap (map seen_as) (k ∙ ap (λ c. cond c ks (ks ++ h ∷ [])) some))
+    (list_any-map home_of_key (same (home_of_key h)) ks ∙ some, ap (map home_of_key) (k ∙ ap (λ c. cond c ks (ks ++ h ∷ [])) some))
 
-abbrev HasAll : List Home → List Home → Type 0
-HasAll ks homes = (k : Home) → list_any (same k) ks ≡ list_any (same k) homes
+abbrev HasAll : List CellHome → List CellHome → Type 0
+HasAll ks homes = (k : CellHome) → list_any (same k) ks ≡ list_any (same k) homes
 
-pub values-more : (homes : List Home) (initial : List ℕ) (ks : List Home) (h : Home) (v : ℕ) → length homes ≡ length initial → HasAll ks homes → list_any (same h) ks ≡ false → map (value_at homes initial) ks ++ v ∷ [] ≡ map (value_at (homes ++ h ∷ []) (initial ++ v ∷ [])) (ks ++ h ∷ [])
+pub values-more : (homes : List CellHome) (initial : List ℕ) (ks : List CellHome) (h : CellHome) (v : ℕ) → length homes ≡ length initial → HasAll ks homes → list_any (same h) ks ≡ false → map (value_at homes initial) ks ++ v ∷ [] ≡ map (value_at (homes ++ h ∷ []) (initial ++ v ∷ [])) (ks ++ h ∷ [])
 values-more homes initial ks h v e all none =
-    let f : Home → ℕ = value_at (homes ++ h ∷ []) (initial ++ v ∷ []) in
+    let f : CellHome → ℕ = value_at (homes ++ h ∷ []) (initial ++ v ∷ []) in
     ap (λ xs. xs ++ v ∷ []) (sym (values-old homes initial h v e ks (λ k t. sym (all k) ∙ t)))
     ∙ ap (λ x. map f ks ++ x ∷ []) (sym (value-new homes initial h v e (sym (all h) ∙ none)))
     ∙ sym (map-append f ks (h ∷ []))
 
-pub values-again : (homes : List Home) (initial : List ℕ) (ks : List Home) (h : Home) (v : ℕ) → length homes ≡ length initial → HasAll ks homes → map (value_at homes initial) ks ≡ map (value_at (homes ++ h ∷ []) (initial ++ v ∷ [])) ks
+pub values-again : (homes : List CellHome) (initial : List ℕ) (ks : List CellHome) (h : CellHome) (v : ℕ) → length homes ≡ length initial → HasAll ks homes → map (value_at homes initial) ks ≡ map (value_at (homes ++ h ∷ []) (initial ++ v ∷ [])) ks
 values-again homes initial ks h v e all = sym (values-old homes initial h v e ks (λ k t. sym (all k) ∙ t))
 
 -- as many keys as there are different homes
-keys-counted : (homes : List Home) (initial : List ℕ) (s : Seen) → IsSeen homes initial s → length s.homes.keys ≡ length (firsts same homes)
-keys-counted homes initial s w = sym (length-map s.homes.keys seen_as) ∙ ap length w.told.keys
+keys-counted : (homes : List CellHome) (initial : List ℕ) (s : Seen) → IsSeen homes initial s → length s.homes.keys ≡ length (firsts same homes)
+keys-counted homes initial s w = sym (length-map s.homes.keys home_of_key) ∙ ap length w.told.keys
 
-pub sees : (homes : List Home) (initial : List ℕ) (s : Seen) (n : ℕ) → n ≡ length s.homes.keys → IsSeen homes initial s → Sees (nat_le n 65536) homes initial s
+pub sees : (homes : List CellHome) (initial : List ℕ) (s : Seen) (n : ℕ) → n ≡ length s.homes.keys → IsSeen homes initial s → Sees (nat_le n 65536) homes initial s
 sees homes initial s n e w = by_test (leb_tells n 65536)
   where
     by_test : ((nat_le n 65536 ≡ true) × (n ≤ 65536)) ⊎ ((nat_le n 65536 ≡ false) × (65536 < n)) → Sees (nat_le n 65536) homes initial s
     by_test (inl (t, few)) = subst (λ b. Sees b homes initial s) (sym t) (w, omega (arith, e, few))
     by_test (inr (t, many)) = subst (λ b. Sees b homes initial s) (sym t) (omega (arith, e, many, keys-counted homes initial s w))
 
-pub few-places : (homes : List Home) (initial : List ℕ) (s : Seen) → IsSeen homes initial s → length s.homes.keys ≤ 65536 → length (firsts same homes) ≤ 65536
+pub few-places : (homes : List CellHome) (initial : List ℕ) (s : Seen) → IsSeen homes initial s → length s.homes.keys ≤ 65536 → length (firsts same homes) ≤ 65536
 few-places homes initial s w few = omega (arith, few, keys-counted homes initial s w)
 
-counts-long : (homes : List Home) (initial : List ℕ) (s : Seen) → IsSeen homes initial s → length s.counts.items ≡ length (map seen_as s.homes.keys)
-counts-long homes initial s w = ap length w.told.counts ∙ length-map (map seen_as s.homes.keys) (often same homes)
+counts-long : (homes : List CellHome) (initial : List ℕ) (s : Seen) → IsSeen homes initial s → length s.counts.items ≡ length (map home_of_key s.homes.keys)
+counts-long homes initial s w = ap length w.told.counts ∙ length-map (map home_of_key s.homes.keys) (often same homes)
 
-pub counts_few : (homes : List Home) (initial : List ℕ) (s : Seen) → IsSeen homes initial s → length s.homes.keys ≤ 65536 → length s.counts.items ≤ 65536
-counts_few homes initial s w few = omega (arith, few, counts-long homes initial s w, length-map s.homes.keys seen_as)
+pub counts_few : (homes : List CellHome) (initial : List ℕ) (s : Seen) → IsSeen homes initial s → length s.homes.keys ≤ 65536 → length s.counts.items ≤ 65536
+counts_few homes initial s w few = omega (arith, few, counts-long homes initial s w, length-map s.homes.keys home_of_key)
 
-pub counts_even : (homes : List Home) (initial : List ℕ) (s : Seen) → IsSeen homes initial s → length s.counts.items ≡ length s.values.items
-counts_even homes initial s w = counts-long homes initial s w ∙ sym (ap length w.values ∙ length-map (map seen_as s.homes.keys) (value_at homes initial))
+pub counts_even : (homes : List CellHome) (initial : List ℕ) (s : Seen) → IsSeen homes initial s → length s.counts.items ≡ length s.values.items
+counts_even homes initial s w = counts-long homes initial s w ∙ sym (ap length w.values ∙ length-map (map home_of_key s.homes.keys) (value_at homes initial))

@@ -15,7 +15,7 @@ use Rattle.std.proofs.lemmas.Str.Parse.{digit_at}
 use Rattle.san_flat.proofs.ListLemmas.{get-map}
 use Rattle.san_flat.proofs.TreePaths.{HasChild, IsLeaf, IsPath}
 use Rattle.san_check.specs.Composed.{children_of}
-use Rattle.san_flat.specs.Texts.{name_of, path_text, step_text, steps_text}
+use Rattle.san_flat.specs.Paths.{name_of, path_text, step_text, steps_text}
 use Rattle.san_net.specs.Apart.{AreApart}
 use Rattle.san_net.specs.Laid.{is_blank}
 use Rattle.san_net.specs.Names.{are_in_name, is_digit, is_letter, is_name}

@@ -9,7 +9,8 @@ use Rattle.std.proofs.lemmas.Option.{slice_get_within, get_or_from_slice_get}
 use Rattle.san_flat.proofs.ListLemmas.{apart-append, apart-map, apart-nil, got-map}
 use Rattle.san_net.specs.Apart.{AreApart}
 use Rattle.san_tree.proofs.WalkLemmas.{grown-long, instances-at, no-child, own-child}
-use Rattle.san_tree.specs.Instances.{below, copied, earlier, grown, instances, instances_of, joined, onto}
+use Rattle.san_tree.specs.Instances.{below, copied, grown, instances, instances_of, joined, onto}
+use Rattle.san_tree.specs.inner.Walks.{earlier}
 use Rattle.san_tree.specs.Places.{child_of, node_at, node_of}
 use Rattle.san_tree.specs.declared.instance.Instance.{Instance}
 use Rattle.san_tree.specs.declared.node.Node.{Node}

@@ -1,5 +1,5 @@
 pub mod Homes
-pub mod Texts
+pub mod Paths
 pub mod Networks
-pub mod Sightings
 pub mod Flattened
+pub mod inner

@@ -3,8 +3,8 @@
 use Rattle.std.specs.Prelude.{ℕ, ◌+◌, nat_lt, if◌then◌else◌, List, [], ◌∷◌, length, map, slice_index_or}
 use Rattle.std.specs.List.{sum_by}
 use Rattle.san_check.specs.declared.model.Model.{Model}
-use Rattle.san_flat.specs.Homes.{Cells, Home, homes_in, rows_of, same}
-use Rattle.san_flat.specs.Texts.{path_text}
+use Rattle.san_flat.specs.Homes.{Cells, CellHome, homes_in, rows_of, same}
+use Rattle.san_flat.specs.Paths.{path_text}
 use Rattle.san_net.specs.Network.{Network}
 use Rattle.san_net.specs.Numbering.{all_of, firsts, number, ordered, repeated}
 use Rattle.san_net.specs.declared.atomic.Atomic.{Atomic}
@@ -41,10 +41,10 @@ abbrev pub leaves_in : Composition → List Instance
 leaves_in c = instances c.nodes c.root
 
 -- the homes of all cells of some leaves, in order
-abbrev pub homes_among : Composition → List Instance → List Home
+abbrev pub homes_among : Composition → List Instance → List CellHome
 homes_among c leaves = all_of (rows_of c.nodes c.root c.cells leaves)
 
-abbrev pub all_homes : Composition → List Home
+abbrev pub all_homes : Composition → List CellHome
 all_homes c = homes_among c (leaves_in c)
 
 -- the initial values of all cells of some leaves, in order
@@ -58,7 +58,7 @@ abbrev pub all_values : Composition → List ℕ
 all_values c = values_among c (leaves_in c)
 
 -- the initial value at a home: that of the first cell there
-abbrev pub value_at : List Home → List ℕ → Home → ℕ
+abbrev pub value_at : List CellHome → List ℕ → CellHome → ℕ
 value_at [] values home = 0
 value_at (h ∷ homes) [] home = 0
 value_at (h ∷ homes) (value ∷ values) home = if same home h then value else value_at homes values home
@@ -68,7 +68,7 @@ abbrev pub slot_at : ℕ → ℕ → Slot
 slot_at shared place = if nat_lt place shared then Shared (record { 0 = place }) else Private (record { 0 = place })
 
 -- the homes that are of two or more cells come first, each group by first appearance
-abbrev pub slot_of : List Home → Home → Slot
+abbrev pub slot_of : List CellHome → CellHome → Slot
 slot_of homes home = slot_at (length (repeated same homes)) (number same homes home)
 
 -- a leaf as part, with its number and that of its first activity
@@ -113,38 +113,8 @@ count_of_acts c = acts_among c (leaves_in c)
 
 -- ---- the same of a model
 
-abbrev pub leaves_of : Model → List Instance
-leaves_of m = leaves_in (composition_in m)
-
-abbrev pub homes_from : Model → List Instance → List Home
-homes_from m leaves = homes_among (composition_in m) leaves
-
-abbrev pub homes_of : Model → List Home
-homes_of m = all_homes (composition_in m)
-
-abbrev pub values_from : Model → List Instance → List ℕ
-values_from m leaves = values_among (composition_in m) leaves
-
-abbrev pub values_of : Model → List ℕ
-values_of m = all_values (composition_in m)
-
-abbrev pub part_of : Model → ℕ → ℕ → Instance → Part
-part_of m leaf first i = part_in (composition_in m) leaf first i
-
-abbrev pub parts_from : Model → ℕ → ℕ → List Instance → List Part
-parts_from m leaf first is = parts_in (composition_in m) leaf first is
-
 abbrev pub network_of_model : Model → Network
 network_of_model m = network_in (composition_in m)
 
 abbrev pub leaf_count : Model → ℕ
 leaf_count m = count_of_leaves (composition_in m)
-
-abbrev pub place_count : Model → ℕ
-place_count m = count_of_places (composition_in m)
-
-abbrev pub acts_in : Model → List Instance → ℕ
-acts_in m leaves = acts_among (composition_in m) leaves
-
-abbrev pub act_count : Model → ℕ
-act_count m = count_of_acts (composition_in m)

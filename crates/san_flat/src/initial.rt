@@ -1,5 +1,7 @@
+//! The initial values of the places.
+
 ghost use Rattle.std.specs.Prelude.{◌≡◌, ◌∷◌, ◌++◌, [], if◌then◌else◌, length, true, false, IfOk, OnOk};
-ghost use Rattle.san_flat.specs.Sightings.{picked};
+ghost use Rattle.san_flat.specs.inner.Sightings.{picked};
 
 use san_base::NoMemory;
 use std::alloc::Global;
@@ -30,7 +32,7 @@ fn push_picked(
 }
 
 /// The initial values of the places, from those of the homes in the order in which they were seen.
-pub fn initial_of(alloc: Global, counts: &[u8], values: &[u32]) -> Result<Vec<u32>, NoMemory>
+pub(crate) fn initial_of(alloc: Global, counts: &[u8], values: &[u32]) -> Result<Vec<u32>, NoMemory>
     requires { length counts.now ≡ length values.now }
     ensures { IfOk result (λ initial. initial.items ≡ picked true counts.now values.now ++ picked
         false counts.now values.now) }

@@ -1,13 +1,13 @@
 //! The flat network of a model: its leaves over the places that their cells become.
 #![tactic(auto)]
 
-mod flattening;
 mod home;
 mod initial;
 mod leaf;
+mod network;
 mod numbers;
 mod parts;
+mod path;
 mod seen;
-mod text;
 
-pub use flattening::{FlatFault, flatten};
+pub use network::{FlatFault, flatten};

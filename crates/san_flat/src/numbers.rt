@@ -1,11 +1,14 @@
-ghost use Rattle.std.specs.Prelude.{◌≡◌, ◌≤◌, ◌+◌, ◌++◌, List, length, map, nat_eq, slice_index, true, IfOk};
+//! The numbers of the places that the homes of cells are.
+
+ghost use Rattle.std.specs.Prelude.{◌≡◌, ◌≤◌, ◌+◌, ◌*◌, ◌++◌, List, length, map, nat_eq, slice_index, true, IfOk};
 ghost use Rattle.std.specs.List.{count_by, list_any};
-ghost use Rattle.san_flat.specs.Homes.{Home, same, seen_as};
+ghost use Rattle.san_base.specs.declared.limits.TheConstants.{MAX_PLACES};
+ghost use Rattle.san_flat.specs.Homes.{CellHome, same, home_of_key};
 ghost use Rattle.san_flat.specs.Networks.{slot_at, slot_of};
-ghost use Rattle.san_flat.specs.Sightings.{AreNumbers};
+ghost use Rattle.san_flat.specs.inner.Sightings.{AreNumbers};
 ghost use Rattle.san_net.specs.Numbering.{IsTold, number, ranked};
 
-use crate::home::CellHome;
+use crate::home::HomeKey;
 use indexmap::IndexSet;
 use san_base::{NoMemory, PlaceId};
 use san_net::Slot;
@@ -15,7 +18,7 @@ use std::alloc::Global;
 /// shared.
 #[derive(Drop)]
 pub struct Numbers {
-    pub homes: IndexSet<CellHome>,
+    pub homes: IndexSet<HomeKey>,
     pub places: Vec<u32>,
     pub shared: u32,
 }
@@ -30,7 +33,7 @@ fn repeated(counts: &[u8]) -> usize
 /// Numbers for what was seen so often: those that were twice or more count from 0, the others from
 /// the number of these.
 fn ranks(alloc: Global, counts: &[u8], shared: u32) -> Result<Vec<u32>, NoMemory>
-    requires { shared + length counts.now ≤ 131072 }
+    requires { shared + length counts.now ≤ 2 * MAX_PLACES }
     ensures { IfOk result (λ v. v.items ≡ ranked 0 shared counts.now) }
 {
     let mut numbers = Vec::with_capacity(alloc, counts.len())?;
@@ -49,14 +52,14 @@ fn ranks(alloc: Global, counts: &[u8], shared: u32) -> Result<Vec<u32>, NoMemory
 }
 
 /// The numbers of homes that were seen so often.
-pub fn numbers_of(
+pub(crate) fn numbers_of(
     alloc: Global,
-    homes: IndexSet<CellHome>,
+    homes: IndexSet<HomeKey>,
     counts: &[u8],
 ) -> Result<Numbers, NoMemory>
-    requires { length counts.now ≤ 65536 }
-    ensures { IfOk result (λ numbers. (cells : List Home)
-        → IsTold same cells (map seen_as homes.keys) counts.now → AreNumbers cells numbers) }
+    requires { length counts.now ≤ MAX_PLACES }
+    ensures { IfOk result (λ numbers. (cells : List CellHome)
+        → IsTold same cells (map home_of_key homes.keys) counts.now → AreNumbers cells numbers) }
 {
     let shared = repeated(counts) as u32;
     let places = ranks(alloc, counts, shared)?;
@@ -86,9 +89,9 @@ fn slot_at(shared: u32, place: u32) -> Slot
     }
 }
 
-fn place_of(numbers: &Numbers, home: &CellHome) -> u32
-    ensures { (cells : List Home) → AreNumbers cells numbers.now
-        → list_any (same (seen_as home.now)) cells ≡ true → result ≡ number same cells (seen_as
+fn place_of(numbers: &Numbers, home: &HomeKey) -> u32
+    ensures { (cells : List CellHome) → AreNumbers cells numbers.now
+        → list_any (same (home_of_key home.now)) cells ≡ true → result ≡ number same cells (home_of_key
         home.now) }
 {
     match numbers.homes.get_index_of(home) {
@@ -98,9 +101,9 @@ fn place_of(numbers: &Numbers, home: &CellHome) -> u32
 }
 
 /// The slot of a cell that was seen.
-pub fn slot_of(numbers: &Numbers, home: &CellHome) -> Slot
-    ensures { (cells : List Home) → AreNumbers cells numbers.now
-        → list_any (same (seen_as home.now)) cells ≡ true → result ≡ slot_of cells (seen_as
+pub(crate) fn slot_of(numbers: &Numbers, home: &HomeKey) -> Slot
+    ensures { (cells : List CellHome) → AreNumbers cells numbers.now
+        → list_any (same (home_of_key home.now)) cells ≡ true → result ≡ slot_of cells (home_of_key
         home.now) }
 {
     slot_at(numbers.shared, place_of(numbers, home))

@@ -1,25 +1,30 @@
-ghost use Rattle.std.specs.Prelude.{◌≡◌, ◌≤◌, ◌<◌, All, List, length, map, min, IfOk};
-ghost use Rattle.san_flat.specs.Homes.{Home, homes_in};
-ghost use Rattle.san_flat.specs.Networks.{acts_in, homes_of, part_of, parts_from, slot_of};
-ghost use Rattle.san_flat.specs.Sightings.{AreAmong, AreNumbers};
+//! The leaves as parts of the network.
+
+ghost use Rattle.std.specs.Prelude.{◌≡◌, ◌+◌, ◌≤◌, ◌<◌, All, List, length, map, min, IfOk};
+ghost use Rattle.san_base.specs.declared.limits.TheConstants.{MAX_LEAVES, MAX_ACTS};
+ghost use Rattle.san_tree.specs.declared.limits.TheConstants.{MAX_PATH};
+ghost use Rattle.san_flat.specs.Homes.{CellHome, homes_in};
+ghost use Rattle.san_flat.specs.Networks.{slot_of};
+ghost use Rattle.san_flat.specs.inner.Models.{acts_in, homes_of, part_of, parts_from};
+ghost use Rattle.san_flat.specs.inner.Sightings.{AreAmong, AreNumbers};
 ghost use Rattle.san_tree.specs.Instances.{IsWithin};
 
 use crate::home::home_of;
 use crate::leaf::{acts_of, cells_of};
 use crate::numbers::{Numbers, slot_of};
-use san_base::{ActId, Items, LeafId, NoMemory, Shared};
+use san_base::{ActId, Items, LeafId, MAX_ACTS, NoMemory, Shared};
 use san_check::Model;
 use san_net::{Part, Slot};
 use san_tree::Instance;
 use std::alloc::Global;
 
-/// The number of the activities of some leaves, or 65,537 where they have more.
-pub fn act_count(model: &Model, leaves: &[Instance]) -> u32
-    ensures { result ≡ min (acts_in model.now leaves.now) 65537 }
+/// The number of the activities of some leaves, or one more than a network may have where they have more.
+pub(crate) fn act_count(model: &Model, leaves: &[Instance]) -> u32
+    ensures { result ≡ min (acts_in model.now leaves.now) (MAX_ACTS + 1) }
 {
     let mut total: u32 = 0;
     'leaves: for leaf in leaves {
-        total = (total + acts_of(model, leaf.atomic)).min(65537);
+        total = (total + acts_of(model, leaf.atomic)).min(MAX_ACTS + 1);
     }
     total
 }
@@ -31,8 +36,8 @@ fn slots_of(
     numbers: &Numbers,
     leaf: &Instance,
 ) -> Result<Items<Slot>, NoMemory>
-    requires short { IsWithin 255 leaf.now }
-    ensures { IfOk result (λ slots. (homes : List Home) → AreNumbers homes numbers.now
+    requires short { IsWithin MAX_PATH leaf.now }
+    ensures { IfOk result (λ slots. (homes : List CellHome) → AreNumbers homes numbers.now
         → AreAmong homes (homes_in model.now.tree.nodes model.now.tree.root model.now.cells leaf.now)
         → slots ≡ map (slot_of homes) (homes_in model.now.tree.nodes model.now.tree.root
         model.now.cells leaf.now)) }
@@ -55,7 +60,7 @@ fn part_of(
     number: u32,
     first: u32,
 ) -> Result<Shared<Part>, NoMemory>
-    requires short { IsWithin 255 leaf.now }
+    requires short { IsWithin MAX_PATH leaf.now }
     requires there { leaf.now.atomic < length model.now.atomics }
     requires numbers { AreNumbers (homes_of model.now) numbers.now }
     requires among { AreAmong (homes_of model.now) (homes_in model.now.tree.nodes
@@ -76,15 +81,15 @@ fn part_of(
 }
 
 /// The parts of the leaves, whose activities are numbered leaf by leaf.
-pub fn parts_of(
+pub(crate) fn parts_of(
     alloc: Global,
     model: &Model,
     numbers: &Numbers,
     leaves: &[Instance],
 ) -> Result<Vec<Shared<Part>>, NoMemory>
-    requires few { length leaves.now ≤ 4096 }
-    requires acts { acts_in model.now leaves.now ≤ 65536 }
-    requires short { All (IsWithin 255) leaves.now }
+    requires few { length leaves.now ≤ MAX_LEAVES }
+    requires acts { acts_in model.now leaves.now ≤ MAX_ACTS }
+    requires short { All (IsWithin MAX_PATH) leaves.now }
     requires there { All (λ leaf. leaf.atomic < length model.now.atomics) leaves.now }
     requires numbers { AreNumbers (homes_of model.now) numbers.now }
     requires among { All (λ leaf. AreAmong (homes_of model.now) (homes_in model.now.tree.nodes

@@ -1,13 +1,17 @@
+//! The homes of all cells, seen one by one.
+
 ghost use Rattle.std.specs.Prelude.{true, All, ◌≡◌, ◌≤◌, ◌<◌, ◌∷◌, ◌++◌, ℕ, List, [], length, map, IfOk, OnOk, min, ◌+◌, slice_index, slice_set};
-ghost use Rattle.san_flat.specs.Homes.{Home, homes_in, same, seen_as};
-ghost use Rattle.san_flat.specs.Networks.{homes_from, values_from, values_in};
-ghost use Rattle.san_flat.specs.Sightings.{IsEven, IsSeen, Sees, SeesAll};
+ghost use Rattle.san_tree.specs.declared.limits.TheConstants.{MAX_PATH};
+ghost use Rattle.san_flat.specs.Homes.{CellHome, homes_in, same, home_of_key};
+ghost use Rattle.san_flat.specs.Networks.{values_in};
+ghost use Rattle.san_flat.specs.inner.Models.{homes_from, values_from};
+ghost use Rattle.san_flat.specs.inner.Sightings.{IsEven, IsSeen, Sees, SeesAll};
 ghost use Rattle.san_tree.specs.Instances.{IsWithin};
 
-use crate::home::{CellHome, home_of};
+use crate::home::{HomeKey, home_of};
 use crate::leaf::{cells_of, initial_of};
 use indexmap::IndexSet;
-use san_base::NoMemory;
+use san_base::{MAX_PLACES, NoMemory};
 use san_check::Model;
 use san_tree::Instance;
 use std::alloc::Global;
@@ -16,7 +20,7 @@ use std::alloc::Global;
 /// initial value of its first cell.
 #[derive(Drop)]
 pub struct Seen {
-    pub homes: IndexSet<CellHome>,
+    pub homes: IndexSet<HomeKey>,
     pub counts: Vec<u8>,
     pub values: Vec<u32>,
 }
@@ -31,9 +35,9 @@ fn count_again(counts: &mut Vec<u8>, at: usize)
 }
 
 /// One more cell is noted.
-fn note(seen: &mut Seen, home: CellHome, value: u32) -> Result<(), NoMemory>
-    ensures { OnOk result ((homes : List Home) (initial : List ℕ) → IsSeen homes initial seen.old
-        → IsSeen (homes ++ seen_as home ∷ []) (initial ++ value ∷ []) seen.new) }
+fn note(seen: &mut Seen, home: HomeKey, value: u32) -> Result<(), NoMemory>
+    ensures { OnOk result ((homes : List CellHome) (initial : List ℕ) → IsSeen homes initial seen.old
+        → IsSeen (homes ++ home_of_key home ∷ []) (initial ++ value ∷ []) seen.new) }
 {
     let (at, new) = seen.homes.insert_full(home)?;
     if new {
@@ -48,12 +52,12 @@ fn note(seen: &mut Seen, home: CellHome, value: u32) -> Result<(), NoMemory>
 
 /// One more cell is seen. Answers whether the homes are still no more than a network has places.
 #[tactic(auto, using(crate::proofs::SightLemmas::sees))]
-fn see(seen: &mut Seen, home: CellHome, value: u32) -> Result<bool, NoMemory>
-    ensures { IfOk result (λ fits. (homes : List Home) (initial : List ℕ) → IsSeen homes initial seen.old
-        → Sees fits (homes ++ seen_as home ∷ []) (initial ++ value ∷ []) seen.new) }
+fn see(seen: &mut Seen, home: HomeKey, value: u32) -> Result<bool, NoMemory>
+    ensures { IfOk result (λ fits. (homes : List CellHome) (initial : List ℕ) → IsSeen homes initial seen.old
+        → Sees fits (homes ++ home_of_key home ∷ []) (initial ++ value ∷ []) seen.new) }
 {
     note(seen, home, value)?;
-    Ok(seen.homes.len() <= 65536)
+    Ok(seen.homes.len() <= MAX_PLACES as usize)
 }
 
 /// The cells of a leaf are seen. Answers whether the homes are still no more than a network has
@@ -64,9 +68,9 @@ fn see_leaf(
     model: &Model,
     leaf: &Instance,
 ) -> Result<bool, NoMemory>
-    requires short { IsWithin 255 leaf.now }
+    requires short { IsWithin MAX_PATH leaf.now }
     requires even { IsEven model.now leaf.now }
-    ensures { IfOk result (λ fits. (homes : List Home) (initial : List ℕ)
+    ensures { IfOk result (λ fits. (homes : List CellHome) (initial : List ℕ)
         → Sees true homes initial seen.old → Sees fits (homes ++ homes_in model.now.tree.nodes
         model.now.tree.root model.now.cells leaf.now) (initial ++ values_in model.now.atomics
         leaf.now) seen.new) }
@@ -84,8 +88,12 @@ fn see_leaf(
 
 /// The cells of all leaves are seen, in order, or none where a network has fewer places than there
 /// are homes.
-pub fn see_all(alloc: Global, model: &Model, leaves: &[Instance]) -> Result<Option<Seen>, NoMemory>
-    requires short { All (IsWithin 255) leaves.now }
+pub(crate) fn see_all(
+    alloc: Global,
+    model: &Model,
+    leaves: &[Instance],
+) -> Result<Option<Seen>, NoMemory>
+    requires short { All (IsWithin MAX_PATH) leaves.now }
     requires even { All (IsEven model.now) leaves.now }
     ensures { IfOk result (λ seen. SeesAll seen (homes_from model.now leaves.now) (values_from
         model.now leaves.now)) }

@@ -1,6 +1,6 @@
 -- The tokens of words that were written with their blanks are these words.
-use Rattle.std.proofs.Common.{◌≡◌, ℕ, zero, suc, ◌+◌, ◌-◌, ◌*◌, ◌^◌, ◌<◌, ◌≤◌, Bool, true, false, cond, ◌&&◌, nat_lt, List, [], ◌∷◌, ◌++◌, length, map, Result, Ok, Err, Option, Some, None, refl, ap, ◌∙◌, arith}
-use Rattle.std.specs.Prelude.{nat_eq}
+use Rattle.std.proofs.Common.{◌≡◌, ℕ, zero, suc, ◌+◌, ◌-◌, ◌*◌, ◌<◌, ◌≤◌, Bool, true, false, cond, ◌&&◌, List, [], ◌∷◌, ◌++◌, length, map, Result, Ok, Err, Option, Some, None, refl, ap, ◌∙◌, arith}
+use Rattle.std.specs.Prelude.{nat_eq, nat_le}
 use Rattle.std.proofs.lemmas.Bool.Decides.{nat_tests}
 use Rattle.std.specs.Char.{digit_value}
 use Rattle.std.specs.Str.Parse.{digits_value, AllDigits, IsNumeral}
@@ -13,9 +13,11 @@ use Rattle.san_lex.specs.declared.sign.Mark.{Mark}
 use Rattle.san_lex.specs.declared.sign.Mark.TheVariants as mark
 use Rattle.san_lex.specs.declared.sign.Sign.{Sign}
 use Rattle.san_lex.specs.declared.sign.Sign.TheVariants as sign
+use Rattle.san_base.specs.declared.limits.TheConstants.{MAX_NAME_BYTES}
+use Rattle.san_lex.specs.declared.byte.TheConstants.{MAX_NUMBER}
 use Rattle.san_lex.specs.Bytes.{is_letter, is_digit, is_in_name, is_blank, run, first, each}
-use Rattle.san_lex.specs.Keywords.{keyword_of, model_keyword, activity_keyword, delay_keyword, reward_keyword}
-use Rattle.san_lex.specs.Lexing.{Word, Number, Name, Fixed, Fault, Front, Token, named, numbered, mark_of, operator_of, single, double, sign_front, front, more, Placed, with_token, grown, lex, word_of, heard}
+use Rattle.san_lex.specs.Keywords.{keyword_of}
+use Rattle.san_lex.specs.Lexer.{Word, Number, Name, Fixed, Fault, Front, Token, named, numbered, mark_of, operator_of, single, double, sign_front, front, more, Located, with_token, grown, lex, word_of, heard}
 use Rattle.san_lex.specs.Words.{IsName, IsWord, AreWords}
 use Rattle.san_lex.specs.Layout.{sign_text, text_of, Before, Line, Tight, Loose, before, hugs, depth_after, closes, spaces, gap, ending, layout}
 
@@ -32,7 +34,7 @@ lex_token : (b : ℕ) (bs vs : List ℕ) (w : Word) (at then : ℕ) → at + suc
 unfolding lex
 lex_token b bs vs w at then e f =
     ap (λ (g : Front). grown g at (lex (more g) (suc at) (bs ++ vs))) f
-    ∙ ap (λ (r : Result (List Placed) Fault). grown (Token w (length bs)) at r) (lex_skip bs vs (suc at) then (omega arith))
+    ∙ ap (λ (r : Result (List Located) Fault). grown (Token w (length bs)) at r) (lex_skip bs vs (suc at) then (omega arith))
 
 lex_space : (vs : List ℕ) (at : ℕ) → lex 0 at (32 ∷ vs) ≡ lex 0 (suc at) vs
 unfolding lex front
@@ -46,7 +48,7 @@ lex_spaces : (n : ℕ) (vs : List ℕ) (at then : ℕ) → at + n ≡ then → l
 lex_spaces zero vs at then e = let same : at ≡ then = omega arith in ap (λ (k : ℕ). lex 0 k vs) same
 lex_spaces (suc n) vs at then e = lex_space (spaces n ++ vs) at ∙ lex_spaces n vs (suc at) then (omega arith)
 
-heard_token : (p : Placed) (r : Result (List Placed) Fault) (ws : List Word) → heard r ≡ Ok ws → heard (with_token p r) ≡ Ok (p.word ∷ ws)
+heard_token : (p : Located) (r : Result (List Located) Fault) (ws : List Word) → heard r ≡ Ok ws → heard (with_token p r) ≡ Ok (p.word ∷ ws)
 heard_token p (Ok ps) ws e = let same : map word_of ps ≡ ws = cc in ap (λ (us : List Word). Ok (p.word ∷ us)) same
 heard_token p (Err f) ws e = absurd cc
 
@@ -203,7 +205,7 @@ record Fronts (w : Word) (vs : List ℕ) : Type 0 where
   front_is : front head (others ++ vs) ≡ Token w (length others)
 
 sign_fronts : (s : Sign) (vs : List ℕ) → sign_grows s (first vs) ≡ false → Fronts (Fixed s) vs
-unfolding text_of front double single mark_of operator_of named keyword_of model_keyword activity_keyword delay_keyword reward_keyword run
+unfolding text_of front double single mark_of operator_of named keyword_of run
 sign_fronts (sign.Operator op.Or) vs e = record { head = 124; others = 124 ∷ []; text = refl; front_is = refl }
 sign_fronts (sign.Operator op.And) vs e = record { head = 38; others = 38 ∷ []; text = refl; front_is = refl }
 sign_fronts (sign.Operator op.Eq) vs e = record { head = 61; others = 61 ∷ []; text = refl; front_is = refl }
@@ -275,17 +277,17 @@ each_digit : (ds : List ℕ) → AllDigits 10 ds → each is_digit ds ≡ true
 each_digit [] h = refl
 each_digit (d ∷ ds) h = ap (λ (b : Bool). b && each is_digit ds) (digit_is d h.0).3 ∙ each_digit ds h.1
 
-number_text : (ds : List ℕ) (n : ℕ) (vs : List ℕ) → IsNumeral 10 ds → digits_value 10 ds ≡ n → n < 2 ^ 63 → is_digit (first vs) ≡ false
+number_text : (ds : List ℕ) (n : ℕ) (vs : List ℕ) → IsNumeral 10 ds → digits_value 10 ds ≡ n → n ≤ MAX_NUMBER → is_digit (first vs) ≡ false
     → (b : ℕ) × (bs : List ℕ) × (ds ≡ b ∷ bs) × (front b (bs ++ vs) ≡ Token (Number n) (length bs))
 unfolding front numbered
 number_text [] n vs h v lt e = absurd (omega (arith, h.0))
 number_text (d ∷ ds) n vs h v lt e =
     let t = digit_is d h.1.0 in
     let r : run is_digit (ds ++ vs) ≡ ds = run_all is_digit ds vs (each_digit ds h.1.1) e in
-    let small : nat_lt n (2 ^ 63) ≡ true = grind (arith, nat_tests) in
+    let small : nat_le n MAX_NUMBER ≡ true = grind (arith, nat_tests) in
     (d, ds, refl, rw (t.0, t.1, t.2, t.3, r, v, small) refl)
 
-number_fronts : (n : ℕ) (vs : List ℕ) → n < 2 ^ 63 → is_digit (first vs) ≡ false → Fronts (Number n) vs
+number_fronts : (n : ℕ) (vs : List ℕ) → n ≤ MAX_NUMBER → is_digit (first vs) ≡ false → Fronts (Number n) vs
 unfolding text_of
 number_fronts n vs lt e =
     let d = decimal_is_IsNumeral n (omega arith) in
@@ -299,8 +301,8 @@ name_fronts (b ∷ bs) vs h e =
     let t = letter_is b h.0 in
     let letter : is_letter b ≡ true = h.0 in
     let r : run is_in_name (bs ++ vs) ≡ bs = run_all is_in_name bs vs h.1 e in
-    let lt : length bs < 64 = h.2 in
-    let short : nat_lt 63 (length bs) ≡ false = grind (arith, nat_tests) in
+    let lt : length bs < MAX_NAME_BYTES = h.2 in
+    let short : nat_le MAX_NAME_BYTES (length bs) ≡ false = grind (arith, nat_tests) in
     let key : keyword_of (b ∷ bs) ≡ None = h.3 in
     record { head = b; others = bs; text = refl; front_is = rw (t.0, t.1, letter, r, short, key) refl }
 

@@ -1,6 +1,6 @@
 -- The names and numbers among words.
-use Rattle.std.proofs.Common.{◌≡◌, List, [], ◌∷◌, ◌++◌, refl, ap, ◌∙◌}
-use Rattle.san_lex.specs.Lexing.{Word, Number, Name, Fixed}
+use Rattle.std.proofs.Common.{◌≡◌, List, [], ◌∷◌, ◌++◌, refl, ap}
+use Rattle.san_lex.specs.Lexer.{Word, Number, Name, Fixed}
 use Rattle.san_lex.specs.Words.{AreWords, said}
 
 pub said_append : (us vs : List Word) → said (us ++ vs) ≡ said us ++ said vs
@@ -8,9 +8,6 @@ said_append [] vs = refl
 said_append (Number n ∷ us) vs = ap (λ (x : List Word). Number n ∷ x) (said_append us vs)
 said_append (Name s ∷ us) vs = ap (λ (x : List Word). Name s ∷ x) (said_append us vs)
 said_append (Fixed s ∷ us) vs = said_append us vs
-
-pub said_by : (ws us vs : List Word) → ws ≡ us ++ vs → said ws ≡ said us ++ said vs
-said_by ws us vs e = ap said e ∙ said_append us vs
 
 -- words can be written where their names and numbers can, and the other way round
 pub said_fits : (ws : List Word) → AreWords ws → AreWords (said ws)

@@ -1,13 +1,15 @@
 -- The tokens of a text are words that can be written.
-use Rattle.std.proofs.Common.{◌≡◌, ℕ, zero, suc, ◌+◌, ◌^◌, ◌<◌, Bool, true, false, cond, ◌&&◌, nat_lt, List, [], ◌∷◌, length, map, Result, Ok, Err, Option, Some, None, refl, ap, subst, ◌∙◌, arith}
-use Rattle.std.specs.Prelude.{nat_eq}
+use Rattle.std.proofs.Common.{◌≡◌, ℕ, zero, suc, ◌+◌, ◌<◌, ◌≤◌, Bool, true, false, cond, ◌&&◌, List, [], ◌∷◌, length, map, Result, Ok, Err, Option, Some, None, refl, ap, subst, ◌∙◌, arith}
+use Rattle.std.specs.Prelude.{nat_eq, nat_le}
 use Rattle.std.proofs.lemmas.Bool.Decides.{nat_tests}
 use Rattle.std.specs.Str.Parse.{digits_value}
 use Rattle.san_lex.specs.declared.sign.Keyword.{Keyword}
 use Rattle.san_lex.specs.declared.sign.Sign.{Sign}
+use Rattle.san_base.specs.declared.limits.TheConstants.{MAX_NAME_BYTES}
+use Rattle.san_lex.specs.declared.byte.TheConstants.{MAX_NUMBER}
 use Rattle.san_lex.specs.Bytes.{is_letter, is_digit, is_in_name, is_blank, run, first}
 use Rattle.san_lex.specs.Keywords.{keyword_of}
-use Rattle.san_lex.specs.Lexing.{Number, Fault, Large, Long, Front, Gap, Token, Broken, name_word, named, numbered, single, double, sign_front, front, more, Placed, with_token, grown, lex, word_of}
+use Rattle.san_lex.specs.Lexer.{Number, Fault, Large, Long, Front, Gap, Token, Broken, name_word, named, numbered, single, double, sign_front, front, more, Located, with_token, grown, lex, word_of}
 use Rattle.san_lex.specs.Bytes.{each}
 use Rattle.san_lex.specs.Words.{IsWord, AreWords}
 
@@ -29,21 +31,21 @@ unfolding run
 each_run p [] = refl
 each_run p (b ∷ bs) = each_run_at p b (run p bs) (p b) refl (each_run p bs)
 
-name_fits : (o : Option Keyword) (b : ℕ) (bs : List ℕ) → keyword_of (b ∷ bs) ≡ o → is_letter b ≡ true → each is_in_name bs ≡ true → length bs < 64 → IsWord (name_word o (b ∷ bs))
+name_fits : (o : Option Keyword) (b : ℕ) (bs : List ℕ) → keyword_of (b ∷ bs) ≡ o → is_letter b ≡ true → each is_in_name bs ≡ true → length bs < MAX_NAME_BYTES → IsWord (name_word o (b ∷ bs))
 name_fits None b bs k l e lt = (l, e, lt, k)
 name_fits (Some s) b bs k l e lt = tt
 
 named_fits : (b : ℕ) (bs : List ℕ) → is_letter b ≡ true → each is_in_name bs ≡ true → FrontFits (named (b ∷ bs))
 unfolding named
-named_fits b bs l e = either (nat_lt 63 (length bs)) (Broken Long) (Token (name_word (keyword_of (b ∷ bs)) (b ∷ bs)) (length bs)) (λ h. tt)
+named_fits b bs l e = either (nat_le MAX_NAME_BYTES (length bs)) (Broken Long) (Token (name_word (keyword_of (b ∷ bs)) (b ∷ bs)) (length bs)) (λ h. tt)
     (λ h. name_fits (keyword_of (b ∷ bs)) b bs refl l e (grind (arith, nat_tests)))
 
-below : (n : ℕ) → nat_lt n (2 ^ 63) ≡ true → n < 2 ^ 63
+below : (n : ℕ) → nat_le n MAX_NUMBER ≡ true → n ≤ MAX_NUMBER
 below n h = grind (arith, nat_tests)
 
 numbered_fits : (b : ℕ) (bs : List ℕ) → FrontFits (numbered (b ∷ bs))
 unfolding numbered
-numbered_fits b bs = either (nat_lt (digits_value 10 (b ∷ bs)) (2 ^ 63)) (Token (Number (digits_value 10 (b ∷ bs))) (length bs)) (Broken Large) (λ h. below (digits_value 10 (b ∷ bs)) h) (λ h. tt)
+numbered_fits b bs = either (nat_le (digits_value 10 (b ∷ bs)) MAX_NUMBER) (Token (Number (digits_value 10 (b ∷ bs))) (length bs)) (Broken Large) (λ h. below (digits_value 10 (b ∷ bs)) h) (λ h. tt)
 
 sign_fits : (o p : Option Sign) → FrontFits (sign_front o p)
 sign_fits (Some s) p = tt
@@ -58,19 +60,19 @@ front_fits b bs =
     either (is_letter b) _ _ (λ h. named_fits b (run is_in_name bs) h (each_run is_in_name bs)) (λ h.
     either (is_digit b) _ _ (λ h. numbered_fits b (run is_digit bs)) (λ h. sign_fits (double b (first bs)) (single b)))))
 
-token_words : (p : Placed) (r : Result (List Placed) Fault) (ps : List Placed) → with_token p r ≡ Ok ps → (qs : List Placed) × (r ≡ Ok qs) × (p ∷ qs ≡ ps)
+token_words : (p : Located) (r : Result (List Located) Fault) (ps : List Located) → with_token p r ≡ Ok ps → (qs : List Located) × (r ≡ Ok qs) × (p ∷ qs ≡ ps)
 token_words p (Ok qs) ps e = (qs, refl, cc)
 token_words p (Err f) ps e = absurd cc
 
-grown_words : (f : Front) (at : ℕ) (r : Result (List Placed) Fault) (ps : List Placed) → FrontFits f → ((qs : List Placed) → r ≡ Ok qs → AreWords (map word_of qs)) → grown f at r ≡ Ok ps → AreWords (map word_of ps)
+grown_words : (f : Front) (at : ℕ) (r : Result (List Located) Fault) (ps : List Located) → FrontFits f → ((qs : List Located) → r ≡ Ok qs → AreWords (map word_of qs)) → grown f at r ≡ Ok ps → AreWords (map word_of ps)
 grown_words (Gap n) at r ps h rest e = rest ps e
 grown_words (Token w n) at r ps h rest e =
     let t = token_words (record { word = w; start = at; end = at + suc n }) r ps e in
-    subst (λ (qs : List Placed). AreWords (map word_of qs)) t.2 (h, rest t.0 t.1)
+    subst (λ (qs : List Located). AreWords (map word_of qs)) t.2 (h, rest t.0 t.1)
 grown_words (Broken f) at r ps h rest e = absurd cc
 
-pub lex_words : (skip at : ℕ) (bs : List ℕ) (ps : List Placed) → lex skip at bs ≡ Ok ps → AreWords (map word_of ps)
+pub lex_words : (skip at : ℕ) (bs : List ℕ) (ps : List Located) → lex skip at bs ≡ Ok ps → AreWords (map word_of ps)
 unfolding lex
-lex_words skip at [] ps e = let none : [] ≡ ps = cc in subst (λ (qs : List Placed). AreWords (map word_of qs)) none tt
+lex_words skip at [] ps e = let none : [] ≡ ps = cc in subst (λ (qs : List Located). AreWords (map word_of qs)) none tt
 lex_words (suc k) at (b ∷ bs) ps e = lex_words k (suc at) bs ps e
 lex_words zero at (b ∷ bs) ps e = grown_words (front b bs) at (lex (more (front b bs)) (suc at) bs) ps (front_fits b bs) (λ qs h. lex_words (more (front b bs)) (suc at) bs qs h) e

@@ -1,5 +1,7 @@
 -- The keywords and how they are spelled.
-use Rattle.std.specs.Prelude.{ℕ, cond, List, [], ◌∷◌, Option, Some, None, codes, bytes_eq}
+use Rattle.std.specs.Prelude.{ℕ, List, Option, codes, bytes_eq}
+use Rattle.std.specs.List.{find}
+use Rattle.san_lex.specs.declared.keyword.TheConstants.{KEYWORDS}
 use Rattle.san_lex.specs.declared.sign.Keyword.{Keyword}
 use Rattle.san_lex.specs.declared.sign.Keyword.TheVariants as keyword
 
@@ -36,26 +38,6 @@ keyword_text keyword.At = codes "at"
 keyword_text keyword.Rate = codes "rate"
 keyword_text keyword.Impulse = codes "impulse"
 
--- that of these keywords that has this spelling
-abbrev pub spelled : List Keyword → List ℕ → Option Keyword
-spelled [] word = None
-spelled (k ∷ ks) word = cond (bytes_eq word (keyword_text k)) (Some k) (spelled ks word)
-
-unfoldable pub model_keyword : List ℕ → Option Keyword
-model_keyword word = spelled (keyword.San ∷ keyword.Atomic ∷ keyword.Place ∷ keyword.Join ∷ keyword.Child ∷ keyword.Share ∷ keyword.Rep ∷ keyword.Times ∷ keyword.System ∷ []) word
-
-unfoldable pub activity_keyword : List ℕ → Option Keyword
-activity_keyword word = spelled (keyword.Timed ∷ keyword.Instant ∷ keyword.In ∷ keyword.Gate ∷ keyword.Do ∷ keyword.React ∷ keyword.Case ∷ keyword.Out ∷ keyword.If ∷ keyword.Else ∷ []) word
-
-unfoldable pub delay_keyword : List ℕ → Option Keyword
-delay_keyword word = spelled (keyword.Delay ∷ keyword.Det ∷ keyword.Uniform ∷ keyword.Geom ∷ keyword.Table ∷ []) word
-
-unfoldable pub reward_keyword : List ℕ → Option Keyword
-reward_keyword word = spelled (keyword.Reward ∷ keyword.On ∷ keyword.Over ∷ keyword.Mean ∷ keyword.At ∷ keyword.Rate ∷ keyword.Impulse ∷ []) word
-
-abbrev pub or_else : Option Keyword → Option Keyword → Option Keyword
-or_else (Some k) other = Some k
-or_else None other = other
-
+-- the keyword that has this spelling
 unfoldable pub keyword_of : List ℕ → Option Keyword
-keyword_of word = or_else (model_keyword word) (or_else (activity_keyword word) (or_else (delay_keyword word) (reward_keyword word)))
+keyword_of word = find (λ k. bytes_eq (keyword_text k) word) KEYWORDS

@@ -8,7 +8,7 @@ use Rattle.san_lex.specs.declared.sign.Mark.TheVariants as mark
 use Rattle.san_lex.specs.declared.sign.Sign.{Sign}
 use Rattle.san_lex.specs.declared.sign.Sign.TheVariants as sign
 use Rattle.san_lex.specs.Keywords.{keyword_text}
-use Rattle.san_lex.specs.Lexing.{Word, Number, Name, Fixed}
+use Rattle.san_lex.specs.Lexer.{Word, Number, Name, Fixed}
 
 abbrev pub op_text : Op → List ℕ
 op_text op.Or = 124 ∷ 124 ∷ []

@@ -1,6 +1,7 @@
 pub mod Bytes
 pub mod Keywords
-pub mod Lexing
+pub mod Lexer
 pub mod Pieces
 pub mod Words
 pub mod Layout
+pub mod inner

@@ -1,36 +1,38 @@
-ghost use Rattle.std.specs.Prelude.{◌≡◌, ◌+◌, ◌<◌, ◌≤◌, ℕ, suc, true, length, take, MatchOption, ◌^◌};
+//! Kinds of bytes, and how many bytes at the front of a text are of one kind.
+
+ghost use Rattle.std.specs.Prelude.{◌≡◌, ◌+◌, ◌<◌, ◌≤◌, ℕ, suc, true, length, take, MatchOption};
 ghost use Rattle.std.specs.Char.{digit_value};
 ghost use Rattle.std.specs.Str.Parse.{digits_value};
 ghost use Rattle.san_lex.specs.Bytes.{is_letter, is_digit, is_in_name, is_blank, is_in_line, run, first, each};
 
-pub fn is_letter(b: u8) -> bool
+pub(crate) fn is_letter(b: u8) -> bool
     ensures { result ≡ is_letter b }
 {
     b >= b'a' && b <= b'z'
 }
 
 #[tactic(auto, using(crate::proofs::RunLemmas::digit_test))]
-pub fn is_digit(b: u8) -> bool
+pub(crate) fn is_digit(b: u8) -> bool
     ensures { result ≡ is_digit b }
 {
     b >= b'0' && b <= b'9'
 }
 
 /// Whether a byte may stand in a name behind its first.
-pub fn is_in_name(b: u8) -> bool
+pub(crate) fn is_in_name(b: u8) -> bool
     ensures { result ≡ is_in_name b }
 {
     is_letter(b) || (is_digit(b) || b == b'_')
 }
 
-pub fn is_blank(b: u8) -> bool
+pub(crate) fn is_blank(b: u8) -> bool
     ensures { result ≡ is_blank b }
 {
     b == b' ' || (b == b'\n' || (b == b'\t' || b == b'\r'))
 }
 
 /// The first byte, or 0.
-pub fn first(bytes: &[u8]) -> u8
+pub(crate) fn first(bytes: &[u8]) -> u8
     ensures { result ≡ first bytes.now }
 {
     match bytes {
@@ -41,7 +43,7 @@ pub fn first(bytes: &[u8]) -> u8
 
 /// How many bytes at the front can stand in a name.
 #[tactic(auto, using(crate::proofs::RunLemmas::run_goes, crate::proofs::RunLemmas::run_stops, crate::proofs::RunLemmas::run_ends))]
-pub fn name_length(bytes: &[u8]) -> usize
+pub(crate) fn name_length(bytes: &[u8]) -> usize
     ensures { result ≡ length (run is_in_name bytes.now) }
 {
     let mut n = 0;
@@ -53,7 +55,7 @@ pub fn name_length(bytes: &[u8]) -> usize
 
 /// How many bytes there are up to the next line feed.
 #[tactic(auto, using(crate::proofs::RunLemmas::run_goes, crate::proofs::RunLemmas::run_stops, crate::proofs::RunLemmas::run_ends))]
-pub fn line_length(bytes: &[u8]) -> usize
+pub(crate) fn line_length(bytes: &[u8]) -> usize
     ensures { result ≡ length (run is_in_line bytes.now) }
 {
     let mut n = 0;
@@ -65,7 +67,7 @@ pub fn line_length(bytes: &[u8]) -> usize
 
 /// How many bytes at the front are digits.
 #[tactic(auto, using(crate::proofs::RunLemmas::run_goes, crate::proofs::RunLemmas::run_stops, crate::proofs::RunLemmas::run_ends))]
-pub fn digits_length(bytes: &[u8]) -> usize
+pub(crate) fn digits_length(bytes: &[u8]) -> usize
     ensures { result ≡ length (run is_digit bytes.now) }
 {
     let mut n = 0;
@@ -76,7 +78,7 @@ pub fn digits_length(bytes: &[u8]) -> usize
 }
 
 /// The first byte and so many more, as many as there are.
-pub fn front_of(bytes: &[u8], more: usize) -> &[u8]
+pub(crate) fn front_of(bytes: &[u8], more: usize) -> &[u8]
     ensures { result.now ≡ take (suc more) bytes.now }
 {
     if more < bytes.len() {
@@ -95,16 +97,19 @@ fn digit(b: u8) -> u8
     b - b'0'
 }
 
-/// The value of digits, where it is below 2 ^ 63.
+/// The greatest number that a text can have.
+pub const MAX_NUMBER: u64 = 9_223_372_036_854_775_807;
+
+/// The value of digits, where it is not above the greatest number.
 #[tactic(auto, using(crate::proofs::RunLemmas::each_at, crate::proofs::RunLemmas::value_more, crate::proofs::RunLemmas::value_grows))]
-pub fn value_of(digits: &[u8]) -> Option<u64>
+pub(crate) fn value_of(digits: &[u8]) -> Option<u64>
     requires { each is_digit digits.now ≡ true }
-    ensures { MatchOption result (2 ^ 63 ≤ digits_value 10 digits.now) (λ n. (n ≡ digits_value 10 digits.now) × (n < 2 ^ 63)) }
+    ensures { MatchOption result (MAX_NUMBER < digits_value 10 digits.now) (λ n. (n ≡ digits_value 10 digits.now) × (n ≤ MAX_NUMBER)) }
 {
     let mut value: u64 = 0;
     'next: for d in digits {
         let more = u128::from(value) * 10 + u128::from(digit(*d));
-        if more >= 9223372036854775808 {
+        if more > u128::from(MAX_NUMBER) {
             return None;
         }
         value = more as u64;

@@ -1,125 +1,79 @@
-ghost use Rattle.std.specs.Prelude.{◌≡◌, codes, bytes_eq};
-ghost use Rattle.san_lex.specs.Keywords.{model_keyword, activity_keyword, delay_keyword, reward_keyword, keyword_of};
+//! How the keywords are spelled: the one table of them, and the look-up of a spelling.
+
+ghost use Rattle.std.specs.Prelude.{◌≡◌};
+ghost use Rattle.san_lex.specs.Keywords.{keyword_text, keyword_of};
 
 use crate::sign::Keyword;
 
-fn is_same(word: &[u8], text: &[u8]) -> bool
-    ensures { result ≡ bytes_eq word.now text.now }
-{
-    word == text
+/// All keywords.
+pub(crate) const KEYWORDS: [Keyword; 31] = [
+    Keyword::San,
+    Keyword::Atomic,
+    Keyword::Place,
+    Keyword::Timed,
+    Keyword::Instant,
+    Keyword::In,
+    Keyword::Gate,
+    Keyword::Do,
+    Keyword::Delay,
+    Keyword::Det,
+    Keyword::Uniform,
+    Keyword::Geom,
+    Keyword::Table,
+    Keyword::React,
+    Keyword::Case,
+    Keyword::Out,
+    Keyword::If,
+    Keyword::Else,
+    Keyword::Join,
+    Keyword::Child,
+    Keyword::Share,
+    Keyword::Rep,
+    Keyword::Times,
+    Keyword::System,
+    Keyword::Reward,
+    Keyword::On,
+    Keyword::Over,
+    Keyword::Mean,
+    Keyword::At,
+    Keyword::Rate,
+    Keyword::Impulse,
+];
+
+/// Chooses the spelling of a keyword from a table.
+macro_rules! spelling {
+    ($keyword:expr; $($name:ident $text:literal,)*) => {
+        match $keyword {
+            $(Keyword::$name => $text,)*
+        }
+    };
 }
 
-#[tactic(auto, unfolding(crate::specs::Keywords::model_keyword))]
-fn model_keyword(word: &[u8]) -> Option<Keyword>
-    ensures { result ≡ model_keyword word.now }
-{
-    if is_same(word, b"san") {
-        Some(Keyword::San)
-    } else if is_same(word, b"atomic") {
-        Some(Keyword::Atomic)
-    } else if is_same(word, b"place") {
-        Some(Keyword::Place)
-    } else if is_same(word, b"join") {
-        Some(Keyword::Join)
-    } else if is_same(word, b"child") {
-        Some(Keyword::Child)
-    } else if is_same(word, b"share") {
-        Some(Keyword::Share)
-    } else if is_same(word, b"rep") {
-        Some(Keyword::Rep)
-    } else if is_same(word, b"times") {
-        Some(Keyword::Times)
-    } else if is_same(word, b"system") {
-        Some(Keyword::System)
-    } else {
-        None
-    }
-}
-
-#[tactic(auto, unfolding(crate::specs::Keywords::activity_keyword))]
-fn activity_keyword(word: &[u8]) -> Option<Keyword>
-    ensures { result ≡ activity_keyword word.now }
-{
-    if is_same(word, b"timed") {
-        Some(Keyword::Timed)
-    } else if is_same(word, b"instant") {
-        Some(Keyword::Instant)
-    } else if is_same(word, b"in") {
-        Some(Keyword::In)
-    } else if is_same(word, b"gate") {
-        Some(Keyword::Gate)
-    } else if is_same(word, b"do") {
-        Some(Keyword::Do)
-    } else if is_same(word, b"react") {
-        Some(Keyword::React)
-    } else if is_same(word, b"case") {
-        Some(Keyword::Case)
-    } else if is_same(word, b"out") {
-        Some(Keyword::Out)
-    } else if is_same(word, b"if") {
-        Some(Keyword::If)
-    } else if is_same(word, b"else") {
-        Some(Keyword::Else)
-    } else {
-        None
-    }
-}
-
-#[tactic(auto, unfolding(crate::specs::Keywords::delay_keyword))]
-fn delay_keyword(word: &[u8]) -> Option<Keyword>
-    ensures { result ≡ delay_keyword word.now }
-{
-    if is_same(word, b"delay") {
-        Some(Keyword::Delay)
-    } else if is_same(word, b"det") {
-        Some(Keyword::Det)
-    } else if is_same(word, b"uniform") {
-        Some(Keyword::Uniform)
-    } else if is_same(word, b"geom") {
-        Some(Keyword::Geom)
-    } else if is_same(word, b"table") {
-        Some(Keyword::Table)
-    } else {
-        None
-    }
-}
-
-#[tactic(auto, unfolding(crate::specs::Keywords::reward_keyword))]
-fn reward_keyword(word: &[u8]) -> Option<Keyword>
-    ensures { result ≡ reward_keyword word.now }
-{
-    if is_same(word, b"reward") {
-        Some(Keyword::Reward)
-    } else if is_same(word, b"on") {
-        Some(Keyword::On)
-    } else if is_same(word, b"over") {
-        Some(Keyword::Over)
-    } else if is_same(word, b"mean") {
-        Some(Keyword::Mean)
-    } else if is_same(word, b"at") {
-        Some(Keyword::At)
-    } else if is_same(word, b"rate") {
-        Some(Keyword::Rate)
-    } else if is_same(word, b"impulse") {
-        Some(Keyword::Impulse)
-    } else {
-        None
+impl Keyword {
+    /// How the keyword is spelled.
+    pub(crate) fn text(self) -> &'static [u8]
+        ensures { result.now ≡ keyword_text self }
+    {
+        spelling! { self;
+            San b"san", Atomic b"atomic", Place b"place",
+            Timed b"timed", Instant b"instant", In b"in", Gate b"gate", Do b"do",
+            Delay b"delay", Det b"det", Uniform b"uniform", Geom b"geom", Table b"table",
+            React b"react", Case b"case", Out b"out", If b"if", Else b"else",
+            Join b"join", Child b"child", Share b"share", Rep b"rep", Times b"times",
+            System b"system",
+            Reward b"reward", On b"on", Over b"over", Mean b"mean", At b"at",
+            Rate b"rate", Impulse b"impulse",
+        }
     }
 }
 
 /// The keyword of this spelling.
 #[tactic(auto, unfolding(crate::specs::Keywords::keyword_of))]
-pub fn keyword_of(word: &[u8]) -> Option<Keyword>
+pub(crate) fn keyword_of(word: &[u8]) -> Option<Keyword>
     ensures { result ≡ keyword_of word.now }
 {
-    if let Some(keyword) = model_keyword(word) {
-        return Some(keyword);
-    }
-    if let Some(keyword) = activity_keyword(word) {
-        return Some(keyword);
-    }
-    if let Some(keyword) = delay_keyword(word) {
-        return Some(keyword);
-    }
-    reward_keyword(word)
+    KEYWORDS
+        .iter()
+        .copied()
+        .find(|keyword| keyword.text() == word)
 }

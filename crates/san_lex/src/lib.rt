@@ -4,16 +4,17 @@
 mod byte;
 mod keyword;
 mod laws;
-mod lexing;
+mod lexer;
 mod piece;
 mod sign;
 mod token;
 
+pub use byte::MAX_NUMBER;
 pub use laws::{read_words_can_be_written, written_words_are_read};
-pub use lexing::tokens;
+pub use lexer::tokens;
 pub use san_base::Op;
 pub use sign::{Keyword, Mark, Sign};
-pub use token::{Kind, LexFault, Token, TokenKind, Tokens};
+pub use token::{Kind, LexFault, Token, Tokens};
 
 #[cfg(test)]
 mod tests;

@@ -1,7 +1,9 @@
+//! The longest token at the front of a text.
+
 ghost use Rattle.std.specs.Prelude.{◌≡◌, ℕ, List, true};
 ghost use Rattle.san_lex.specs.Bytes.{is_digit, first};
-ghost use Rattle.san_lex.specs.Lexing.{mark_of, operator_of, either_sign, single, double, sign_front, named, numbered, front};
-ghost use Rattle.san_lex.specs.Pieces.{piece_front, NameFront, NumberFront, IsFront};
+ghost use Rattle.san_lex.specs.Lexer.{mark_of, operator_of, single, double, sign_front, named, numbered, front};
+ghost use Rattle.san_lex.specs.inner.Fronts.{piece_front, NameFront, NumberFront, IsFront};
 
 use crate::byte::{
     digits_length, first, front_of, is_blank, is_digit, is_letter, line_length, name_length,
@@ -10,7 +12,7 @@ use crate::byte::{
 use crate::keyword::keyword_of;
 use crate::sign::{Mark, Sign};
 use crate::token::Kind;
-use san_base::Op;
+use san_base::{MAX_NAME_BYTES, Op};
 
 /// What stands at the front of a text, with how many bytes it has behind its first.
 #[derive(Clone, Copy, Debug, PartialEq, Eq)]
@@ -23,7 +25,7 @@ pub enum Piece {
     Long,
 }
 
-#[tactic(auto, unfolding(crate::specs::Lexing::mark_of))]
+#[tactic(auto, unfolding(crate::specs::Lexer::mark_of))]
 fn mark_of(b: u8) -> Option<Sign>
     ensures { result ≡ mark_of b }
 {
@@ -54,7 +56,7 @@ fn mark_of(b: u8) -> Option<Sign>
     }
 }
 
-#[tactic(auto, unfolding(crate::specs::Lexing::operator_of))]
+#[tactic(auto, unfolding(crate::specs::Lexer::operator_of))]
 fn operator_of(b: u8) -> Option<Sign>
     ensures { result ≡ operator_of b }
 {
@@ -79,17 +81,14 @@ fn operator_of(b: u8) -> Option<Sign>
     }
 }
 
-#[tactic(auto, unfolding(crate::specs::Lexing::single))]
+#[tactic(auto, unfolding(crate::specs::Lexer::single))]
 fn single(b: u8) -> Option<Sign>
     ensures { result ≡ single b }
 {
-    match mark_of(b) {
-        Some(sign) => Some(sign),
-        None => operator_of(b),
-    }
+    mark_of(b).or(operator_of(b))
 }
 
-#[tactic(auto, unfolding(crate::specs::Lexing::double))]
+#[tactic(auto, unfolding(crate::specs::Lexer::double))]
 fn double(b: u8, c: u8) -> Option<Sign>
     ensures { result ≡ double b c }
 {
@@ -136,7 +135,7 @@ fn sign_piece(two: Option<Sign>, one: Option<Sign>) -> Piece
 }
 
 /// A name or keyword at the front.
-#[tactic(auto, unfolding(crate::specs::Lexing::named))]
+#[tactic(auto, unfolding(crate::specs::Lexer::named))]
 fn name_piece(bytes: &[u8]) -> Piece
     ensures { NameFront bytes.now result }
 {
@@ -144,7 +143,7 @@ fn name_piece(bytes: &[u8]) -> Piece
         [] => Piece::Gap(0),
         [_, rest @ ..] => {
             let n = name_length(rest);
-            if n > 63 {
+            if n >= MAX_NAME_BYTES {
                 return Piece::Long;
             }
             match keyword_of(front_of(bytes, n)) {
@@ -156,7 +155,7 @@ fn name_piece(bytes: &[u8]) -> Piece
 }
 
 /// A number at the front.
-#[tactic(auto, unfolding(crate::specs::Lexing::numbered))]
+#[tactic(auto, unfolding(crate::specs::Lexer::numbered))]
 fn number_piece(bytes: &[u8]) -> Piece
     requires { is_digit (first bytes.now) ≡ true }
     ensures { NumberFront bytes.now result }
@@ -174,8 +173,8 @@ fn number_piece(bytes: &[u8]) -> Piece
 }
 
 /// What stands at the front.
-#[tactic(auto, unfolding(crate::specs::Lexing::front))]
-pub fn piece_at(bytes: &[u8]) -> Piece
+#[tactic(auto, unfolding(crate::specs::Lexer::front))]
+pub(crate) fn piece_at(bytes: &[u8]) -> Piece
     ensures { IsFront bytes.now result }
 {
     match bytes {

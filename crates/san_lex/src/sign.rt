@@ -1,3 +1,8 @@
+//! The tokens that are always spelled alike: keywords, marks and operators.
+
+ghost use Rattle.std.specs.Prelude.{◌≡◌};
+ghost use Rattle.san_lex.specs.Layout.{mark_text, op_text, sign_text};
+
 use san_base::Op;
 
 /// The keywords.
@@ -60,4 +65,59 @@ pub enum Sign {
     Operator(Op),
     /// The operator `!`.
     Not,
+}
+
+impl Mark {
+    /// How the mark is spelled.
+    fn text(self) -> &'static [u8]
+        ensures { result.now ≡ mark_text self }
+    {
+        match self {
+            Mark::OpenBrace => b"{",
+            Mark::CloseBrace => b"}",
+            Mark::OpenParen => b"(",
+            Mark::CloseParen => b")",
+            Mark::OpenBracket => b"[",
+            Mark::CloseBracket => b"]",
+            Mark::Semicolon => b";",
+            Mark::Comma => b",",
+            Mark::Dot => b".",
+            Mark::Colon => b":",
+            Mark::Equals => b"=",
+        }
+    }
+}
+
+fn op_text(op: Op) -> &'static [u8]
+    ensures { result.now ≡ op_text op }
+{
+    match op {
+        Op::Or => b"||",
+        Op::And => b"&&",
+        Op::Eq => b"==",
+        Op::Ne => b"!=",
+        Op::Lt => b"<",
+        Op::Le => b"<=",
+        Op::Gt => b">",
+        Op::Ge => b">=",
+        Op::Add => b"+",
+        Op::Sub => b"-",
+        Op::Mul => b"*",
+        Op::Div => b"/",
+        Op::Rem => b"%",
+    }
+}
+
+impl Sign {
+    /// How the sign is spelled.
+    pub fn text(self) -> &'static [u8]
+        ensures { result.now ≡ sign_text self }
+    {
+        match self {
+            Sign::Keyword(keyword) => keyword.text(),
+            Sign::Mark(mark) => mark.text(),
+            Sign::Operator(op) => op_text(op),
+            Sign::Not => b"!",
+        }
+    }
 }

@@ -1,3 +1,5 @@
+//! Tokens and first faults that were worked out by hand.
+
 use super::*;
 use std::test::Fail;
 

@@ -1,5 +1,6 @@
+//! Tokens and where they stand, and why a text has none.
+
 ghost use Rattle.std.specs.Prelude.{◌≡◌};
-ghost use Rattle.san_lex.specs.Lexing.{form_of};
 
 use crate::sign::Sign;
 use san_base::Items;
@@ -14,38 +15,12 @@ pub enum Kind {
     Fixed(Sign),
 }
 
-/// The five forms of tokens.
-#[derive(Clone, Copy, Debug, PartialEq, Eq)]
-pub enum TokenKind {
-    Name,
-    Keyword,
-    Number,
-    Mark,
-    Operator,
-}
-
-/// A token, from the place of its first byte to the place behind its last.
+/// A token, from the offset of its first byte to the offset behind its last.
 #[derive(Clone, Copy, Debug, PartialEq, Eq)]
 pub struct Token {
     pub kind: Kind,
     pub start: u32,
     pub end: u32,
-}
-
-impl Kind {
-    pub fn form(self) -> TokenKind
-        ensures { result ≡ form_of self }
-    {
-        match self {
-            Kind::Number(_) => TokenKind::Number,
-            Kind::Name => TokenKind::Name,
-            Kind::Fixed(sign) => match sign {
-                Sign::Keyword(_) => TokenKind::Keyword,
-                Sign::Mark(_) => TokenKind::Mark,
-                Sign::Operator(_) | Sign::Not => TokenKind::Operator,
-            },
-        }
-    }
 }
 
 /// The tokens of a text in its order, which contracts see as a list.
@@ -64,6 +39,7 @@ impl Model for Tokens {
 }
 
 impl Tokens {
+    /// The tokens of a list.
     pub fn from_vec(found: Vec<Token>) -> Tokens
         ensures { result ≡ found.items }
     {
@@ -72,6 +48,7 @@ impl Tokens {
         }
     }
 
+    /// The tokens as a slice.
     pub fn as_slice(&self) -> &[Token]
         ensures { result.now ≡ self.now }
     {
@@ -79,7 +56,7 @@ impl Tokens {
     }
 }
 
-/// Why a text has no tokens: its first fault, with the place of the byte where it begins.
+/// Why a text has no tokens: its first fault, with the offset of the byte where it begins.
 #[derive(Clone, Copy, Debug, PartialEq, Eq, Error)]
 pub enum LexFault {
     /// A byte begins no token.

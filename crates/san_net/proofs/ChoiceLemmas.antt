@@ -14,7 +14,7 @@ use Rattle.san_expr.specs.Value.{value_of}
 use Rattle.san_expr.proofs.ComposeLemmas.{evaluates_stop, evaluates_then}
 use Rattle.san_expr.proofs.WholeLemmas.{nothing_settled, nothing_then, value_reads}
 use Rattle.san_net.specs.Choice.{all_natural, case_of, chosen, is_total, natural, put_before, weight_of, weights_of}
-use Rattle.san_net.specs.Weighing.{by_total, found_from, passed, stop_or, total_from, weigh}
+use Rattle.san_net.specs.inner.Weighing.{by_total, found_from, passed, stop_or, total_from, weigh}
 use Rattle.san_net.specs.declared.activity.Case.{Case}
 use Rattle.san_net.proofs.SameMeanings.{AddsNothing, Same, again, evaluates_same, first_same, grouped_same, same_sym, same_trans, settled_same, then_same}
 

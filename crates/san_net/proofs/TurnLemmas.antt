@@ -7,7 +7,7 @@ use Rattle.san_expr.specs.Meets.{Evaluates, Meets}
 use Rattle.san_expr.specs.Below.{Bounded, all_below}
 use Rattle.san_expr.proofs.ComposeLemmas.{evaluates_settled, evaluates_stop, evaluates_then, meets_stop, meets_then}
 use Rattle.san_net.specs.Choice.{weight_of}
-use Rattle.san_net.specs.Weighing.{found_from, passed, stop_or, total_from, weigh}
+use Rattle.san_net.specs.inner.Weighing.{found_from, passed, stop_or, total_from, weigh}
 use Rattle.san_net.specs.declared.activity.Case.{Case}
 
 and_both : (a b : Bool) → IsTrue (a && b) → IsTrue a × IsTrue b

@@ -1,7 +1,7 @@
 pub mod Below
 pub mod Enabled
 pub mod Choice
-pub mod Weighing
+pub mod inner
 pub mod Completion
 pub mod Mentions
 pub mod Apart

@@ -5,7 +5,7 @@ ghost use Rattle.san_expr.specs.Below.{places_below};
 ghost use Rattle.san_expr.specs.Meets.{Evaluates};
 ghost use Rattle.san_net.specs.Below.{case_below, cases_below};
 ghost use Rattle.san_net.specs.Choice.{case_of, is_total, natural, weight_of};
-ghost use Rattle.san_net.specs.Weighing.{by_total, found_from, passed, total_from, weigh};
+ghost use Rattle.san_net.specs.inner.Weighing.{by_total, found_from, passed, total_from, weigh};
 
 use crate::activity::{Case, MAX_CASES};
 use san_base::{MAX_WEIGHT, Trap};

@@ -16,7 +16,7 @@ use Rattle.san_law.specs.Step.{End, Ending, Event, Events, Happened, Over, Stepp
 use Rattle.san_law.specs.Trajectory.{Runs}
 use Rattle.san_net.specs.Leaf.{leaf_of}
 use Rattle.san_net.specs.Network.{Network, net_of, network_in}
-use Rattle.san_seq.specs.Rows.{row_at}
+use Rattle.san_seq.specs.inner.Rows.{row_at}
 use Rattle.san_net.specs.Tables.{IsActOf}
 use Rattle.san_seq.proofs.RangeLemmas.{act_is_of, acts_next, due_within, next_in_range}
 

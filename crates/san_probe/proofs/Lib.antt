@@ -1,5 +1,5 @@
 pub mod SmallLemmas
 pub mod OpeningLemmas
 pub mod WatchLemmas
-pub mod CourseLemmas
+pub mod ProgressLemmas
 pub mod TurnLemmas

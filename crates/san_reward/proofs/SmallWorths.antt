@@ -6,11 +6,12 @@ use Rattle.std.proofs.lemmas.List.{length-map}
 use Rattle.san_base.specs.Rated.{in_bounds, rated_by}
 use Rattle.san_base.specs.declared.ending.Trap.{Trap}
 use Rattle.san_base.specs.declared.limits.TheConstants.{MAX_EVENTS, MAX_HORIZON, MAX_LEAVES, MAX_RATED}
-use Rattle.san_law.specs.Net.{Impulse, Net, Rated, Slot, Span, place_of}
+use Rattle.san_expr.specs.Value.{value_of}
+use Rattle.san_law.specs.Net.{Impulse, Net, Rated, Slot, Span}
 use Rattle.san_law.specs.Network.{Limits, no_part}
 use Rattle.san_law.specs.Reward.{Beyond, Mean, Sum, event_sum, events_sum, impulses_sum, is_within, leaf_sum, marked, marked_sum, no_span, plus, rates_from, rates_sum, reward_sum, span_of, sum_ticks, sum_worth, worth, zero_sum}
 use Rattle.san_law.specs.Reward as law
-use Rattle.san_law.specs.State.{State, gather}
+use Rattle.san_law.specs.State.{State, gather, place_of}
 use Rattle.san_law.specs.Step.{Event}
 use Rattle.san_law.specs.Tally.{impulses_in}
 use Rattle.san_net.specs.Laid.{IsNetwork}
@@ -42,13 +43,16 @@ rated_small (Ok x) = bounded x
 rated_small (Err trap) = tt
 
 -- the rates of a leaf
+one_more : (P : Rated → Type 0) (w : Rated) (ws : List Rated) → P w → All P ws → All P (w ∷ ws)
+one_more P w ws h all = each
+  where
+    each : All P (w ∷ ws)
+    each zero d l = h
+    each (suc k) d l = all k d (omega (arith, l))
+
 leaf_rated : (terms : List RateTerm) (v : List ℕ) → All (IsAtMost MAX_RATED) (map (rate_in v) terms)
 leaf_rated [] v = λ k d l. absurd (omega (arith, l))
-leaf_rated (t ∷ ts) v = each
-  where
-    each : All (IsAtMost MAX_RATED) (map (rate_in v) (t ∷ ts))
-    each zero d l = rated_small _
-    each (suc k) d l = leaf_rated ts v k d (omega (arith, l))
+leaf_rated (t ∷ ts) v = one_more (IsAtMost MAX_RATED) (rate_in v t) (map (rate_in v) ts) (rated_small (value_of t.expr v).answer) (leaf_rated ts v)
 
 rated_at : (parts : List Part) (j : ℕ) (v : List ℕ) → All (IsAtMost MAX_RATED) ((slice_index_or (map leaf_of parts) j no_part).rates v)
 rated_at [] j v = λ k d l. absurd (omega (arith, l))
@@ -70,7 +74,7 @@ leaf_small : (r : ℕ) (qs : List ℕ) (ws : List Rated) → All (IsAtMost MAX_R
 leaf_small r [] ws h = omega arith
 leaf_small r (q ∷ qs) [] h = omega arith
 leaf_small r (q ∷ qs) (w ∷ ws) h =
-    let one = if nat_eq q r then 1 else 0 in
+    let one : ℕ = if nat_eq q r then 1 else 0 in
     wider (one * MAX_RATED + terms_in r qs * MAX_RATED) (terms_in r (q ∷ qs) * MAX_RATED) (leaf_sum r (q ∷ qs) (w ∷ ws)) (omega arith)
     (sum_at_most (one * MAX_RATED) (terms_in r qs * MAX_RATED) (if nat_eq q r then w else zero_sum) (leaf_sum r qs ws) (one_small (nat_eq q r) w (h 0 w (omega arith))) (leaf_small r qs ws (λ k d l. h (suc k) d (omega (arith, l)))))
 
@@ -84,7 +88,7 @@ ticks_small f b h a (suc n) =
 impulses_small : (r : ℕ) (xs : List Impulse) → All (λ i. IsAtMost MAX_RATED i.rated) xs → IsAtMost (length xs * MAX_RATED) (impulses_sum r xs)
 impulses_small r [] h = omega arith
 impulses_small r (x ∷ xs) h =
-    let one = if nat_eq x.reward r then 1 else 0 in
+    let one : ℕ = if nat_eq x.reward r then 1 else 0 in
     wider (one * MAX_RATED + length xs * MAX_RATED) (length (x ∷ xs) * MAX_RATED) (impulses_sum r (x ∷ xs)) (most (nat_eq x.reward r))
     (sum_at_most (one * MAX_RATED) (length xs * MAX_RATED) (if nat_eq x.reward r then x.rated else zero_sum) (impulses_sum r xs) (one_small (nat_eq x.reward r) x.rated (h 0 x (omega arith))) (impulses_small r xs (λ k d l. h (suc k) d (omega (arith, l)))))
   where

@@ -39,7 +39,6 @@ pub fn impulses_are_those_of_the_event()
 
 /// The sum of a reward or of a mean is within 2^96 either way, where the events are as few as a run
 /// may have and tell values of terms: ten thousand of them are summed in 128 bits.
-#[tactic(auto, using(crate::proofs::SmallWorths::small_worth))]
 pub fn worths_are_small()
     ensures { (n : Network) (draw : ℕ → ℕ → ℕ) (limits : Limits) (opening : State) (es : List Event)
         (r : ℕ) → IsNetwork n → impulses_in es ≤ MAX_EVENTS * 1024 → AreRated es

@@ -8,15 +8,16 @@ use Rattle.san_expr.specs.Meets.{Meets}
 use Rattle.san_law.proofs.Places.{scatter_length, scatter_same, scatter_twice}
 use Rattle.san_law.specs.Lawful.{AllBelow}
 use Rattle.san_law.specs.State.{gather, scatter}
+use Rattle.san_net.specs.Cells.{IsOver}
 use Rattle.san_net.specs.Completion.{completion_of}
 use Rattle.san_net.specs.Laid.{place_of, places_of}
 use Rattle.san_net.specs.Leaf.{completed_in, effected_by}
 use Rattle.san_net.specs.declared.activity.Activity.{Activity}
 use Rattle.san_net.specs.declared.part.Part.{Part}
 use Rattle.san_net.specs.declared.part.Slot.{Slot}
-use Rattle.san_seq.specs.Completions.{left_by}
-use Rattle.san_seq.specs.Views.{IsOver, Seen, sight_of}
-use Rattle.san_seq.proofs.LeafViewLemmas.{called}
+use Rattle.san_seq.specs.inner.Completions.{left_by}
+use Rattle.san_seq.specs.inner.Views.{Seen, sight_of}
+use Rattle.san_seq.proofs.ViewLemmas.{called}
 
 module _ (places m after : List ℕ) where
   good : (r : Result ℕ Trap) (o : Outcome ℕ) (final : List ℕ) → after ≡ scatter places o.left m → is_err r ≡ false → final ≡ after → (r, final) ≡ left_by places m (effected_by o r)

@@ -2,8 +2,8 @@
 use Rattle.std.proofs.Common.{ℕ, ◌≡◌, ◌∙◌, ap, List, Option, map, drop}
 use Rattle.std.specs.Option.{option_map}
 use Rattle.san_law.specs.Net.{Row, least_timer, least_timer_from}
-use Rattle.san_seq.specs.Clocks.{timer_in}
-use Rattle.san_seq.specs.declared.rows.Timer.{Timer}
+use Rattle.san_clock.specs.Rows.{timer_in}
+use Rattle.san_clock.specs.declared.row.Timer.{Timer}
 
 -- before the first activity the least is that of the row
 pub least_is : (row : Row) (timers : List (Option Timer)) (least : Option (ℕ × ℕ)) (k : ℕ) → k ≡ 0 → map (option_map timer_in) timers ≡ row.timers

@@ -1,5 +1,5 @@
 -- Leaves that aren't stale stay idle through a step.
-use Rattle.std.proofs.Common.{ℕ, zero, suc, ◌+◌, ◌<◌, ◌≡◌, ◌≢◌, ◌∙◌, ◌⊎◌, inl, inr, ap, sym, refl, subst, arith, List, [], ◌∷◌, length, Option, Some, None, Result, Ok, Err, IfOk, Bool, true, false, slice_index, slice_set, nat_eq}
+use Rattle.std.proofs.Common.{replicate, ℕ, zero, suc, ◌+◌, ◌<◌, ◌≡◌, ◌≢◌, ◌∙◌, ◌⊎◌, inl, inr, ap, sym, refl, subst, arith, List, [], ◌∷◌, length, Option, Some, None, Result, Ok, Err, IfOk, Bool, true, false, slice_index, slice_set, nat_eq}
 use Rattle.std.specs.Prelude.{slice_get}
 use Rattle.std.proofs.lemmas.Bool.{eqb-true}
 use Rattle.std.proofs.lemmas.List.{get_or-set_other}
@@ -11,27 +11,28 @@ use Rattle.san_law.specs.Net.{Done, Faulty, Fresh, Found, Net, Nothing, Renewing
 use Rattle.san_law.specs.Network.{Limits as Bounds}
 use Rattle.san_law.specs.Next.{Next, Stable, found_at}
 use Rattle.san_law.specs.Renewal.{AllFresh, Due, FaultAt, Renewal, and_rest, renewed_at, renewed_from, renewed_then}
-use Rattle.san_law.specs.State.{State, gather, index_of, local_of, or_next, repeated, scatter, slots_of, taken_from}
+use Rattle.san_law.specs.State.{State, gather, index_of, local_of, or_next, scatter, slots_of, taken_from}
 use Rattle.san_law.specs.Step as law
 use Rattle.san_net.specs.Laid.{places_of}
 use Rattle.san_net.specs.Leaf.{first_in, leaf_of}
 use Rattle.san_net.specs.Network.{Network, net_of}
 use Rattle.san_net.specs.declared.part.Part.{Part}
 use Rattle.san_law.specs.Clocks.{renewed_row}
-use Rattle.san_seq.specs.Known.{AreFresh, AreIdle, AreQuiet, AreSettled, HaveNothing, HaveSame, IsIdle, TouchedAll}
-use Rattle.san_seq.specs.Nexts.{first_by, first_from, first_of_part, next_among}
-use Rattle.san_seq.specs.Overs.{instant_in}
-use Rattle.san_seq.specs.Renewals.{renewed_part}
-use Rattle.san_seq.specs.Rows.{row_at}
-use Rattle.san_seq.specs.States.{Told, told_by}
-use Rattle.san_seq.specs.Running.{told_in}
-use Rattle.san_seq.specs.declared.stepping.Completion.{Completion}
-use Rattle.san_seq.specs.declared.stepping.Ended.{Ended}
+use Rattle.san_seq.specs.inner.Known.{AreFresh, AreIdle, AreQuiet, AreSettled, HaveNothing, HaveSame, IsIdle, TouchedAll}
+use Rattle.san_seq.specs.inner.Nexts.{first_by, first_from, first_of_part, next_among}
+use Rattle.san_seq.specs.inner.States.{instant_in}
+use Rattle.san_seq.specs.Telling.{told_of}
+use Rattle.san_seq.specs.inner.Renewals.{renewed_part}
+use Rattle.san_seq.specs.inner.Rows.{row_at}
+use Rattle.san_base.specs.declared.ending.Ending.{Ending}
+use Rattle.san_base.specs.declared.ending.Event.{Event}
+use Rattle.san_seq.proofs.ToldLemmas.{Told, happened, told_by}
 use Rattle.san_seq.proofs.NextLemmas.{cut}
-use Rattle.san_seq.proofs.PartLemmas.{lies_over, places_are}
+use Rattle.san_net.proofs.PartLemmas.{lies_over, places_are}
 use Rattle.san_seq.proofs.RowLemmas.{part_renewed}
 use Rattle.san_seq.proofs.RunningLemmas.{scattered}
-use Rattle.san_seq.proofs.TouchLemmas.{gather_at, gather_eq}
+use Rattle.san_seq.proofs.TouchLemmas.{gather_at}
+use Rattle.san_net.proofs.CellLemmas.{gather_eq}
 
 not_false : (o : Option Bool) → o ≡ Some true → o ≡ Some false → {A : Type 0} → A
 not_false o a b = cc
@@ -217,18 +218,18 @@ idle_after n draw bounds j part u v old new is within moved touched own long kno
         one_place k q e was marking (inr f) = touched.equal f.0 i k q p f.1 at down e
 
 -- before the first step all leaves are stale
-all_up : (many j : ℕ) → (let xs : List Bool = repeated many true in slice_get xs j) ≡ Some false → {A : Type 0} → A
+all_up : (many j : ℕ) → (let xs : List Bool = replicate many true in slice_get xs j) ≡ Some false → {A : Type 0} → A
 all_up zero j e = cc
 all_up (suc many) zero e = cc
 all_up (suc many) (suc j) e = all_up many j e
 
-length_repeated : {A : Type 0} (k : ℕ) (a : A) → length (repeated k a) ≡ k
-length_repeated zero a = refl
-length_repeated (suc k) a = ap suc (length_repeated k a)
+length_replicate : {A : Type 0} (k : ℕ) (a : A) → length (replicate k a) ≡ k
+length_replicate zero a = refl
+length_replicate (suc k) a = ap suc (length_replicate k a)
 
-pub all_are_stale : (n : Network) (draw : ℕ → ℕ → ℕ) (stale : List Bool) (s : State) → stale ≡ repeated (length n.parts) true → AreIdle n draw stale s
+pub all_are_stale : (n : Network) (draw : ℕ → ℕ → ℕ) (stale : List Bool) (s : State) → stale ≡ replicate (length n.parts) true → AreIdle n draw stale s
 all_are_stale n draw stale s is = record {
-  sized = ap length is ∙ length_repeated (length n.parts) true;
+  sized = ap length is ∙ length_replicate (length n.parts) true;
   idle = λ j p at down. all_up (length n.parts) j (ap (λ (xs : List Bool). slice_get xs j) (sym is) ∙ down);
 }
 
@@ -246,9 +247,9 @@ places_within : (n : Network) (m : List ℕ) → length m ≡ length n.initial �
 places_within n m sized lies i p k q is at = all_below_at (places_of p) (length m) k q (lies_over n i p is m sized lies).within at
 
 -- what is told is what a step told
-pub if_told : (r : Result Completion Ended) (x : Result Told (ℕ × law.Ending)) (P : Type 0) → told_in r ≡ x → ((t : Told) → x ≡ Ok t → P) → IfOk r (λ c. P)
-if_told (Ok c) x P e h = h _ (sym e)
-if_told (Err e) x P is h = tt
+pub if_told : (now : Result Event Ending) (n : Network) (x : law.Stepped) (P : Type 0) → now ≡ told_of n x → ((t : Told) → told_by x ≡ Ok t → P) → IfOk now (λ e. P)
+if_told (Ok e) n x P is h = let got = happened n x e (sym is) in h got.0 got.1
+if_told (Err e) n x P is h = tt
 
 -- flags over markings that are these
 touched_over : (n : Network) (places stable m a b : List ℕ) (old new : List Bool) → a ≡ stable → b ≡ m → TouchedAll n places a b old new → TouchedAll n places stable m old new

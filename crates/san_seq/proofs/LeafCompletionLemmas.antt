@@ -2,20 +2,21 @@
 use Rattle.std.proofs.Common.{ℕ, zero, suc, ◌+◌, ◌*◌, ◌≡◌, ◌∙◌, ap, sym, refl, arith, List, [], ◌∷◌, length, Option, Some, Result, Ok, Err, slice_index, slice_index_or}
 use Rattle.std.specs.Prelude.{slice_get}
 use Rattle.san_base.specs.declared.ending.Trap.{Trap}
+use Rattle.san_clock.specs.Rows.{counted_by}
 use Rattle.san_law.proofs.Places.{scatter_length}
 use Rattle.san_law.specs.Activity.{Activity, Effected, activity_of, completed, done_by, no_activity, with_case}
 use Rattle.san_law.specs.Activity as leaf
 use Rattle.san_law.specs.Net.{Row}
 use Rattle.san_law.specs.Network as law
 use Rattle.san_net.specs.Network.{Network, network_in}
-use Rattle.san_seq.proofs.PartLemmas.{part_is, places_are}
+use Rattle.san_net.proofs.PartLemmas.{part_is, places_are}
 use Rattle.san_law.specs.State.{gather}
 use Rattle.san_net.specs.Instants.{Named}
 use Rattle.san_net.specs.Laid.{places_of}
 use Rattle.san_net.specs.Leaf.{activities_from, activity_in, completed_in}
 use Rattle.san_net.specs.declared.atomic.ImpulseTerm.{ImpulseTerm}
 use Rattle.san_net.specs.declared.part.Part.{Part}
-use Rattle.san_seq.specs.Completions.{completed_by, leaf_told, left_by, part_told, told_of}
+use Rattle.san_seq.specs.inner.Completions.{completed_by, leaf_told, left_by, part_told, told_of}
 
 some_is : {A : Type 0} (x y : A) → (let o : Option A = Some x in o) ≡ Some y → x ≡ y
 some_is x y e = cc
@@ -42,6 +43,14 @@ done_is p draw k u m after row a case is drawn did =
     ∙ ap (λ (n : ℕ). completed_by (left_by (places_of p) m (completed_in a.1 n (gather (places_of p) m))).0 (left_by (places_of p) m (completed_in a.1 n (gather (places_of p) m))).1 (with_case row k)) drawn
     ∙ by_result (places_of p) m row k act (completed_in a.1 (draw (2 * (p.first.0 + k) + 1) (slice_index row.cases k)) (gather (places_of p) m))
     ∙ ap (λ (x : Activity). told_of (places_of p) m (done_by row k x (x.complete (draw (2 * (p.first.0 + k) + 1) (slice_index row.cases k)) (gather (places_of p) m)))) (sym (act_is p.atomic.impulses 0 p.atomic.acts k a is))
+
+-- a trap takes no draw
+pub counted_same : (case : Result ℕ Trap) (m : List ℕ) (row : Row) (k : ℕ) → completed_by case m (counted_by case row k) ≡ completed_by case m (with_case row k)
+counted_same (Ok case) m row k = refl
+counted_same (Err trap) m row k = refl
+
+pub not_counted : (case : Result ℕ Trap) (trap : Trap) (row now : Row) (k : ℕ) → case ≡ Err trap → now ≡ counted_by case row k → now ≡ row
+not_counted case trap row now k is e = e ∙ ap (λ (r : Result ℕ Trap). counted_by r row k) is
 
 -- a trap leaves the marking
 pub kept_is : (places m after : List ℕ) (trap : Trap) (r : Result Effected Trap) → ((let x : Result ℕ Trap = Err trap in x), after) ≡ left_by places m r → after ≡ m

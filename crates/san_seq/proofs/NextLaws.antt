@@ -11,9 +11,9 @@ use Rattle.san_net.specs.Laid.{IsNetwork, places_of}
 use Rattle.san_net.specs.Leaf.{leaf_of}
 use Rattle.san_net.specs.Network.{Network, net_of, network_in}
 use Rattle.san_net.specs.declared.part.Part.{Part}
-use Rattle.san_seq.specs.Nexts.{first_by, first_from, first_of_part, next_among}
+use Rattle.san_seq.specs.inner.Nexts.{first_by, first_from, first_of_part, next_among}
 use Rattle.san_seq.proofs.NextLemmas.{cut, none_left}
-use Rattle.san_seq.proofs.PartLemmas.{part_is, places_are}
+use Rattle.san_net.proofs.PartLemmas.{part_is, places_are}
 
 module _ (n : Network) (draw : ℕ → ℕ → ℕ) (limits : network.Limits) (s : State) (m : List ℕ) (known : IsNetwork n) (now : s.marking ≡ m) where
   at_leaf : (j : ℕ) (p : Part) → slice_get n.parts j ≡ Some p → first_of_part m p ≡ law.next_of (net_of n draw limits) s j

@@ -4,6 +4,8 @@ use Rattle.std.specs.Option.{option_map}
 use Rattle.std.specs.Prelude.{slice_get}
 use Rattle.std.proofs.lemmas.List.{length-map}
 use Rattle.san_expr.specs.Meets.{Evaluates}
+use Rattle.san_expr.specs.View.{plain}
+use Rattle.san_expr.proofs.WholeLemmas.{plain_meets}
 use Rattle.san_law.specs.Net.{Nothing}
 use Rattle.san_law.specs.Next as law
 use Rattle.san_law.specs.Next.{found_at}
@@ -14,34 +16,28 @@ use Rattle.san_net.specs.First.{first_of}
 use Rattle.san_net.specs.Laid.{place_of, places_of}
 use Rattle.san_net.specs.Leaf.{found_by, first_in}
 use Rattle.san_net.specs.declared.atomic.Atomic.{Atomic}
-use Rattle.san_net.specs.declared.first.Found.{Found}
+use Rattle.san_net.specs.declared.first.FirstInstant.{FirstInstant}
 use Rattle.san_net.specs.declared.part.Part.{Part}
 use Rattle.san_net.specs.declared.part.Slot.{Slot}
-use Rattle.san_net.proofs.FirstLaws.{first_reads}
+use Rattle.san_net.proofs.CellLemmas.{cells_are}
 use Rattle.san_net.proofs.FirstLemmas.{accepted_below}
 use Rattle.san_seq.specs.declared.next.Next.{Next}
-use Rattle.san_seq.specs.Nexts.{first_by, first_from, next_in}
-use Rattle.san_seq.specs.Views.{Seen, sight_of}
-use Rattle.san_seq.proofs.LeafViewLemmas.{cells_are, looked}
+use Rattle.san_seq.specs.inner.Nexts.{first_by, first_from, next_in}
 
-module _ (p : Part) (slots : List Slot) (m : List ℕ) (s : Seen) (slot : slots ≡ p.slots) (places : s.places ≡ map place_of slots) (marking : s.marking ≡ m) where
-  places_are : s.places ≡ places_of p
-  places_are = places ∙ ap (map place_of) slot
+module _ (p : Part) (slots : List Slot) (m values : List ℕ) (slot : slots ≡ p.slots) (seen : values ≡ gather (map place_of slots) m) where
+  values_are : values ≡ gather (places_of p) m
+  values_are = seen ∙ ap (λ (ss : List Slot). gather (map place_of ss) m) slot
 
-  values_are : gather s.places s.marking ≡ gather (places_of p) m
-  values_are = ap (λ (ps : List ℕ). gather ps s.marking) places_are ∙ ap (gather (places_of p)) marking
-
-  pub fits : (a : Atomic) → a ≡ p.atomic → IsAccepted p.atomic → length p.slots ≡ length p.atomic.initial → IsTrue (acts_below a.acts (length (gather s.places s.marking)))
+  pub fits : (a : Atomic) → a ≡ p.atomic → IsAccepted p.atomic → length p.slots ≡ length p.atomic.initial → IsTrue (acts_below a.acts (length values))
   fits a is accepted each =
-      let sized : length p.atomic.initial ≡ length (gather s.places s.marking) = sym each ∙ sym (length-map p.slots place_of) ∙ sym (ap length values_are ∙ cells_are (places_of p) m) in
-      subst (λ (b : Atomic). IsTrue (acts_below b.acts (length (gather s.places s.marking)))) (sym is)
+      let sized : length p.atomic.initial ≡ length values = sym each ∙ sym (length-map p.slots place_of) ∙ sym (ap length values_are ∙ cells_are (places_of p) m) in
+      subst (λ (b : Atomic). IsTrue (acts_below b.acts (length values))) (sym is)
       (subst (λ (n : ℕ). IsTrue (acts_below p.atomic.acts n)) sized (accepted_below p.atomic accepted))
 
-  pub found_is : (a : Atomic) (t : Seen) (found : Found) → a ≡ p.atomic → Evaluates (sight_of s) (sight_of t) (first_of a) (Ok found)
-      → (found_by (Ok found) ≡ first_in p.atomic (gather (places_of p) m)) × (t.marking ≡ m)
-  found_is a t found is did =
-      let seen = looked s t (first_of a) (Ok found) (first_reads a) did in
-      (ap found_by (sym seen.1) ∙ ap (first_in a) values_are ∙ ap (λ (b : Atomic). first_in b (gather (places_of p) m)) is, seen.2 ∙ marking)
+  pub found_is : (a : Atomic) (left : List ℕ) (found : FirstInstant) → a ≡ p.atomic → Evaluates (plain values) (plain left) (first_of a) (Ok found)
+      → found_by (Ok found) ≡ first_in p.atomic (gather (places_of p) m)
+  found_is a left found is did =
+      ap found_by (sym (plain_meets values left (first_of a) (Ok found) did.meets).0) ∙ ap (first_in a) values_are ∙ ap (λ (b : Atomic). first_in b (gather (places_of p) m)) is
 
 pub cut : {A : Type 0} (ps : List A) (j : ℕ) → j < length ps → (p : A) × (slice_get ps j ≡ Some p) × (drop j ps ≡ p ∷ drop (suc j) ps)
 cut [] j h = absurd (omega (arith, h))
@@ -58,12 +54,10 @@ one_leaf ps m j h =
     ∙ ap (λ (k : ℕ). found_at j (first_by m (slice_get ps j)) (first_from k m (drop k ps))) next
 
 -- what a leaf has, or what those after it have
-pub went_on : (ps : List Part) (m now : List ℕ) (j : ℕ) (o : Option Next) → j < length ps → now ≡ m
-    → ((rest : law.Next) → found_at j (first_by now (slice_get ps j)) rest ≡ unwrap_or (option_map next_in o) rest)
+pub went_on : (ps : List Part) (m : List ℕ) (j : ℕ) (o : Option Next) → j < length ps
+    → ((rest : law.Next) → found_at j (first_by m (slice_get ps j)) rest ≡ unwrap_or (option_map next_in o) rest)
     → first_from j m (drop j ps) ≡ unwrap_or (option_map next_in o) (first_from (j + 1) m (drop (j + 1) ps))
-went_on ps m now j o h same found =
-    let rest = first_from (j + 1) m (drop (j + 1) ps) in
-    one_leaf ps m j h ∙ ap (λ (n : List ℕ). found_at j (first_by n (slice_get ps j)) rest) (sym same) ∙ found rest
+went_on ps m j o h found = one_leaf ps m j h ∙ found (first_from (j + 1) m (drop (j + 1) ps))
 
 pub none_left : (ps : List Part) (m : List ℕ) (j : ℕ) → length ps ≤ j → first_from j m (drop j ps) ≡ law.Stable
 unfolding first_from

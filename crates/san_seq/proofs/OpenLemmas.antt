@@ -12,11 +12,11 @@ use Rattle.san_net.specs.Network.{Network, net_of}
 use Rattle.san_net.specs.declared.part.Part.{Part}
 use Rattle.san_draw.specs.Key.{draw_of}
 use Rattle.san_seq.specs.FlatRun.{On, Run, opening}
-use Rattle.san_seq.specs.Openings.{rows_of}
+use Rattle.san_seq.specs.inner.Openings.{rows_of}
 use Rattle.san_seq.specs.Overs.{limits_in}
-use Rattle.san_seq.specs.Rows.{IsRowOf, row_at}
-use Rattle.san_seq.specs.Running.{IsRunning}
-use Rattle.san_seq.proofs.PartLemmas.{part_is}
+use Rattle.san_seq.specs.inner.Rows.{IsRowOf, row_at}
+use Rattle.san_seq.specs.inner.Running.{IsRunning}
+use Rattle.san_net.proofs.PartLemmas.{part_is}
 use Rattle.san_seq.proofs.RangeLemmas.{all_numbered}
 
 blanks_from : (any : net.Net) (ps : List Part) (j : ℕ) → ((i : ℕ) (p : Part) → slice_get ps i ≡ Some p → any.acts (j + i) ≡ length p.atomic.acts)

@@ -1,23 +1,10 @@
 -- What stands before the first step, one after another.
-use Rattle.std.proofs.Common.{ℕ, zero, suc, ◌+◌, ◌≡◌, ◌∙◌, ap, sym, refl, arith, List, [], ◌∷◌, ◌++◌, length, map, take, Option, Some, None}
+use Rattle.std.proofs.Common.{ℕ, zero, suc, ◌+◌, ◌≡◌, ◌∙◌, ap, sym, arith, List, [], ◌∷◌, ◌++◌, length, take, Option, Some}
 use Rattle.std.specs.Prelude.{slice_get}
-use Rattle.std.specs.Option.{option_map}
 use Rattle.san_law.specs.Net as net
-use Rattle.san_law.specs.State.{blank_row, repeated}
+use Rattle.san_law.specs.State.{blank_row}
 use Rattle.san_net.specs.declared.part.Part.{Part}
-use Rattle.san_seq.specs.Clocks.{timer_in}
-use Rattle.san_seq.specs.Openings.{rows_of}
-use Rattle.san_seq.specs.declared.rows.Timer.{Timer}
-
-more : {A : Type 0} (k : ℕ) (a : A) → repeated k a ++ a ∷ [] ≡ repeated (suc k) a
-more zero a = refl
-more (suc k) a = ap (λ xs. a ∷ xs) (more k a)
-
--- one more of the same
-pub one_more : {A : Type 0} (k : ℕ) (a : A) (xs : List A) → xs ≡ repeated k a → xs ++ a ∷ [] ≡ repeated (k + 1) a
-one_more k a xs is =
-    let next : suc k ≡ k + 1 = omega arith in
-    ap (λ ys. ys ++ a ∷ []) is ∙ more k a ∙ ap (λ n. repeated n a) next
+use Rattle.san_seq.specs.inner.Openings.{rows_of}
 
 -- one item more is taken
 pub take_more : {A : Type 0} (xs : List A) (k : ℕ) (a : A) → slice_get xs k ≡ Some a → take k xs ++ a ∷ [] ≡ take (k + 1) xs
@@ -30,19 +17,6 @@ take_more xs k a is = let next : suc k ≡ k + 1 = omega arith in taken xs k a i
     taken [] k a e = absurd cc
     taken (x ∷ xs) zero a e = ap (λ y. y ∷ []) (sym (same x a e))
     taken (x ∷ xs) (suc k) a e = ap (λ ys. x ∷ ys) (taken xs k a e)
-
-untimed_seen : (k : ℕ) → map (option_map timer_in) (repeated k None) ≡ repeated k None
-untimed_seen zero = refl
-untimed_seen (suc k) = ap (λ (xs : List (Option net.Timer)). None ∷ xs) (untimed_seen k)
-
--- a row of blanks
-pub blank_is : (k : ℕ) (timers : List (Option Timer)) (delays cases : List ℕ) → timers ≡ repeated k None → delays ≡ repeated k 0 → cases ≡ repeated k 0
-    → (let r : net.Row = record { timers = map (option_map timer_in) timers; delays = delays; cases = cases } in r) ≡ blank_row k
-blank_is k timers delays cases t d e =
-    ap (λ (xs : List (Option Timer)). (let r : net.Row = record { timers = map (option_map timer_in) xs; delays = delays; cases = cases } in r)) t
-    ∙ ap (λ (xs : List (Option net.Timer)). (let r : net.Row = record { timers = xs; delays = delays; cases = cases } in r)) (untimed_seen k)
-    ∙ ap (λ (xs : List ℕ). (let r : net.Row = record { timers = repeated k None; delays = xs; cases = cases } in r)) d
-    ∙ ap (λ (xs : List ℕ). (let r : net.Row = record { timers = repeated k None; delays = repeated k 0; cases = xs } in r)) e
 
 rows_more : (parts : List Part) (j : ℕ) (p : Part) → slice_get parts j ≡ Some p → rows_of (take j parts) ++ blank_row (length p.atomic.acts) ∷ [] ≡ rows_of (take (suc j) parts)
 rows_more [] j p is = absurd cc

@@ -13,11 +13,11 @@ use Rattle.san_net.specs.Laid.{IsNetwork}
 use Rattle.san_net.specs.Leaf.{activities_from, leaf_of}
 use Rattle.san_net.specs.Network.{Network, net_of, network_in}
 use Rattle.san_net.specs.declared.atomic.ImpulseTerm.{ImpulseTerm}
-use Rattle.san_seq.specs.Rows.{AreRows, row_at}
-use Rattle.san_seq.specs.Telling.{IsActOf}
+use Rattle.san_seq.specs.inner.Rows.{AreRows, row_at}
+use Rattle.san_net.specs.Tables.{IsActOf}
 use Rattle.san_seq.proofs.NextLemmas.{cut}
-use Rattle.san_seq.proofs.PartLemmas.{part_is}
-use Rattle.san_seq.proofs.RowLemmas.{acts_within}
+use Rattle.san_net.proofs.PartLemmas.{part_is}
+use Rattle.san_net.proofs.FlatLemmas.{acts_within}
 
 -- the activity that is found, be it enabled or broken
 abbrev acted : Found → Option ℕ

@@ -23,7 +23,7 @@ use Rattle.san_net.specs.Network.{Network, net_of, network_in}
 use Rattle.san_net.proofs.LaidLemmas.{laid, lawful}
 use Rattle.san_seq.specs.FlatRun.{Going, On, Run, left_by, net_in, stepped}
 use Rattle.san_seq.specs.Reaching.{EventsAreInTime, EventsAreTheLaws, IsInTime, impulses_at}
-use Rattle.san_seq.specs.Rows.{row_at}
+use Rattle.san_seq.specs.inner.Rows.{row_at}
 use Rattle.san_seq.specs.Telling.{event_in, told_of}
 use Rattle.san_seq.proofs.RunningLemmas.{scattered}
 

@@ -1,7 +1,6 @@
 -- The renewal of the rows of all leaves, one after another.
-use Rattle.std.proofs.Common.{ℕ, zero, suc, ◌+◌, ◌-◌, ◌<◌, ◌≤◌, ◌≡◌, ◌≢◌, ◌∙◌, ap, sym, refl, subst, arith, Bool, false, List, [], ◌∷◌, ◌++◌, length, take, drop, Option, Some, Err, All, slice_index_or, slice_set, ◌⊎◌, inl, inr}
+use Rattle.std.proofs.Common.{ℕ, zero, suc, ◌+◌, ◌-◌, ◌<◌, ◌≤◌, ◌≡◌, ◌≢◌, ◌∙◌, ap, sym, refl, subst, arith, Bool, false, List, [], ◌∷◌, ◌++◌, length, take, drop, Some, Err, All, slice_index_or, slice_set, ◌⊎◌, inl, inr}
 use Rattle.std.specs.Prelude.{slice_get}
-use Rattle.std.proofs.lemmas.List.Sums.{sum_by-cons}
 use Rattle.std.proofs.lemmas.Bool.{cases_eq}
 use Rattle.std.proofs.lemmas.List.{get_or-set_same, get_or-set_other}
 use Rattle.san_base.specs.declared.ending.Trap.{Trap}
@@ -10,15 +9,16 @@ use Rattle.san_law.specs.Net.{Net, Row, Fresh, no_row}
 use Rattle.san_law.specs.Network as law
 use Rattle.san_law.specs.Renewal.{AllFresh, FaultAt, Renewal, and_rest, renewed_at, renewed_from, renewed_then}
 use Rattle.san_law.specs.State.{State, gather}
-use Rattle.san_net.specs.Laid.{IsNetwork, acts_of, places_of}
+use Rattle.san_net.specs.Laid.{places_of}
 use Rattle.san_net.specs.Network.{Network, net_of, network_in}
 use Rattle.san_net.specs.declared.part.Part.{Part}
-use Rattle.san_seq.specs.Known.{AreFresh}
-use Rattle.san_seq.specs.Renewals.{renewed_part, renewing_by}
-use Rattle.san_seq.specs.Rows.{AreDrawn, IsLike, row_at}
+use Rattle.san_seq.specs.inner.Known.{AreFresh}
+use Rattle.san_clock.specs.Rows.{renewing_by}
+use Rattle.san_seq.specs.inner.Renewals.{renewed_part}
+use Rattle.san_seq.specs.inner.Rows.{AreDrawn, IsLike, row_at}
 use Rattle.san_seq.proofs.NextLemmas.{cut}
-use Rattle.san_seq.proofs.PartLemmas.{part_is, places_are}
-use Rattle.san_seq.proofs.RenewalLemmas.{all_taken, appended, ended, from_here, set_front, set_rest}
+use Rattle.san_net.proofs.PartLemmas.{part_is, places_are}
+use Rattle.san_clock.proofs.RenewalLemmas.{all_taken, appended, ended, from_here, set_front, set_rest}
 
 -- rows in front of those that are renewed after them
 abbrev pub in_front : List Row → Renewal → Renewal

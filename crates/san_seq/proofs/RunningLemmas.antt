@@ -14,9 +14,9 @@ use Rattle.san_law.specs.Network.{part_at}
 use Rattle.san_net.specs.Network.{Network, net_of, network_in}
 use Rattle.san_net.specs.declared.part.Part as net
 use Rattle.san_seq.specs.Overs.{limits_in}
-use Rattle.san_seq.specs.Rows.{AreDrawn, AreRows, IsLike, row_at}
-use Rattle.san_seq.specs.Running.{AreCounted, IsDrawn, IsRunning, with_rows}
-use Rattle.san_seq.specs.States.{Told, told_by}
+use Rattle.san_seq.specs.inner.Rows.{AreDrawn, AreRows, IsLike, row_at}
+use Rattle.san_seq.specs.inner.Running.{AreCounted, IsDrawn, IsRunning, with_rows}
+use Rattle.san_seq.proofs.ToldLemmas.{Told, told_by}
 
 -- what holds of each row still does after one is set
 each_set : (P : ℕ → Row → Type 0) (rows : List Row) (j : ℕ) (new : Row) → j < length rows → ((i : ℕ) → P i (row_at rows i)) → P j new → (i : ℕ) → P i (row_at (slice_set rows j new) i)

@@ -6,10 +6,10 @@ use Rattle.san_law.specs.State.{State, local_of, slots_of}
 use Rattle.san_law.specs.Step as law
 use Rattle.san_law.specs.Network.{Limits}
 use Rattle.san_net.specs.Network.{Network}
-use Rattle.san_seq.specs.Completions.{completed_by, leaf_told, told_of}
-use Rattle.san_seq.specs.Rows.{row_at}
+use Rattle.san_seq.specs.inner.Completions.{completed_by, leaf_told, told_of}
+use Rattle.san_seq.specs.inner.Rows.{row_at}
 use Rattle.san_seq.proofs.RowLemmas.{any_row}
-use Rattle.san_seq.specs.States.{Told, case_by, told_by}
+use Rattle.san_seq.proofs.ToldLemmas.{Told, case_by, told_by}
 
 -- a state after a completion
 abbrev pub left_with : State → ℕ → ℕ → List ℕ → Row → State

@@ -1,6 +1,8 @@
 -- The parts of a step are the law's, and leave a state of a run.
 use Rattle.std.proofs.Common.{ℕ, ◌+◌, ◌≤◌, ◌<◌, ◌≡◌, ◌∙◌, ap, sym, refl, subst, arith, length, Option, Some, None, Result, Ok, Err, IfOk, Bool, true, false, nat_le, nat_lt, cond}
 use Rattle.std.proofs.lemmas.Bool.{leb-false, ltb-true}
+use Rattle.san_base.specs.declared.ending.Ending.{Ending}
+use Rattle.san_base.specs.declared.ending.Event.{Event}
 use Rattle.san_base.specs.declared.limits.Limits.{Limits}
 use Rattle.san_law.proofs.Steps.{count_room, limit_room}
 use Rattle.san_law.specs.Net.{Net}
@@ -9,16 +11,15 @@ use Rattle.san_law.specs.State.{State, local_of}
 use Rattle.san_law.specs.Next.{Next, next_instant}
 use Rattle.san_law.specs.Step as law
 use Rattle.san_net.specs.Network.{Network, net_of}
-use Rattle.san_seq.specs.Overs.{instant_in, limits_in, over_in, told_case}
-use Rattle.san_seq.specs.Running.{IsDrawn, IsRunning, Steps, told_in, with_rows}
-use Rattle.san_seq.specs.States.{Told, told_by}
-use Rattle.san_seq.specs.declared.limited.Over.{Over}
-use Rattle.san_seq.specs.declared.stepping.Completion.{Completion}
-use Rattle.san_seq.specs.declared.stepping.Ended.{Ended}
+use Rattle.san_seq.specs.Overs.{limits_in}
+use Rattle.san_seq.specs.inner.States.{instant_in}
+use Rattle.san_seq.specs.inner.Running.{IsDrawn, IsRunning, Steps, with_rows}
+use Rattle.san_seq.specs.Telling.{ending_in, told_of}
+use Rattle.san_seq.proofs.ToldLemmas.{Told, happened, told_by}
 use Rattle.san_seq.proofs.RunningLemmas.{by_done}
 
-pub any_ok : (r : Result Completion Ended) (P : Type 0) → P → IfOk r (λ c. P)
-any_ok (Ok c) P p = p
+pub any_ok : (r : Result Event Ending) (P : Type 0) → P → IfOk r (λ e. P)
+any_ok (Ok e) P p = p
 any_ok (Err e) P p = tt
 
 leb_is : (a b : ℕ) → a ≤ b → nat_le a b ≡ true
@@ -29,9 +30,9 @@ leb_is a b h = by_test (nat_le a b) refl
     by_test false e = absurd (omega (arith, h, leb-false a b e))
 
 -- what is told and left by a step that is another's
-pub steps_like : (now : Result Completion Ended) (left : State) (x y : law.Stepped × State) → told_in now ≡ told_by x.0 → left ≡ x.1 → x ≡ y → Steps now left y
-steps_like now left x y told is same = record {
-  told = told ∙ ap (λ (z : law.Stepped × State). told_by z.0) same;
+pub steps_like : (n : Network) (now : Result Event Ending) (left : State) (x y : law.Stepped × State) → now ≡ told_of n x.0 → left ≡ x.1 → x ≡ y → Steps n now left y
+steps_like n now left x y told is same = record {
+  told = told ∙ ap (λ (z : law.Stepped × State). told_of n z.0) same;
   leaves = any_ok now (left ≡ y.1) (is ∙ ap (λ (z : law.Stepped × State). z.1) same);
   marking = ap (λ (z : State). z.marking) (is ∙ ap (λ (z : law.Stepped × State). z.1) same);
 }
@@ -44,10 +45,6 @@ due_fires net s v w d same h is =
     ∙ ap (λ (x : State). law.fire net (law.fired net x v.rows d) d.leaf d.act) (sym same)
     ∙ ap (λ (b : Bool). cond b (law.fire net (law.fired net s v.rows d) d.leaf d.act) (law.Over net.horizon law.End, s)) (sym (leb_is d.time net.horizon h))
 
--- a completion's time is the timer's
-pub fired_told : (net : Net) (v w : State) (d : Due) (case : Result ℕ Over) → w ≡ law.fired net v v.rows d → told_case d.time d.leaf d.act case ≡ told_case w.time d.leaf d.act case
-fired_told net v w d case is = ap (λ (x : State). told_case x.time d.leaf d.act case) (sym is)
-
 module _ (n : Network) (draw : ℕ → ℕ → ℕ) (limits : Limits) (w left : State) (j k : ℕ) (is : IsDrawn n limits (w.count + 1) w) (h : j < length w.rows) where
   timed_by : (o : Option law.Ending) → law.count_limit (net_of n draw (limits_in limits)) w.count ≡ o → (t : Told)
       → (let s : law.Stepped × State = law.unless_over w o (law.complete (net_of n draw (limits_in limits)) w 0 j k ((net_of n draw (limits_in limits)).done j k (local_of (net_of n draw (limits_in limits)) w j))) in told_by s.0 ≡ Ok t → IsRunning n limits s.1)
@@ -56,9 +53,11 @@ module _ (n : Network) (draw : ℕ → ℕ → ℕ) (limits : Limits) (w left : 
   timed_by (Some e) room t is_ok = absurd cc
 
   -- after a completion of a timer's activity
-  pub timed_runs : (now : Result Completion Ended) → told_in now ≡ told_by (law.fire (net_of n draw (limits_in limits)) w j k).0
-      → left ≡ (law.fire (net_of n draw (limits_in limits)) w j k).1 → IfOk now (λ c. IsRunning n limits left)
-  timed_runs (Ok c) told lefts = subst (IsRunning n limits) (sym lefts) (timed_by (law.count_limit (net_of n draw (limits_in limits)) w.count) refl (record { time = c.time; leaf = c.leaf.0; act = c.act; case = c.case }) (sym told))
+  pub timed_runs : (now : Result Event Ending) → now ≡ told_of n (law.fire (net_of n draw (limits_in limits)) w j k).0
+      → left ≡ (law.fire (net_of n draw (limits_in limits)) w j k).1 → IfOk now (λ e. IsRunning n limits left)
+  timed_runs (Ok e) told lefts =
+      let got = happened n (law.fire (net_of n draw (limits_in limits)) w j k).0 e (sym told) in
+      subst (IsRunning n limits) (sym lefts) (timed_by (law.count_limit (net_of n draw (limits_in limits)) w.count) refl got.0 got.1)
   timed_runs (Err e) told lefts = tt
 
 burst_room : (net : Net) (burst count : ℕ) → law.limit_at net burst count ≡ None → burst < net.burst
@@ -77,14 +76,20 @@ module _ (n : Network) (draw : ℕ → ℕ → ℕ) (limits : Limits) (w left : 
   instant_by (Some e) room t is_ok = absurd cc
 
   -- after an instantaneous completion
-  pub instant_runs : (now : Result Completion Ended) → told_in now ≡ told_by (instant_in n draw (limits_in limits) w j k).0
-      → left ≡ (instant_in n draw (limits_in limits) w j k).1 → IfOk now (λ c. IsRunning n limits left)
-  instant_runs (Ok c) told lefts = subst (IsRunning n limits) (sym lefts) (instant_by (law.limit_at (net_of n draw (limits_in limits)) w.burst w.count) refl (record { time = c.time; leaf = c.leaf.0; act = c.act; case = c.case }) (sym told))
+  pub instant_runs : (now : Result Event Ending) → now ≡ told_of n (instant_in n draw (limits_in limits) w j k).0
+      → left ≡ (instant_in n draw (limits_in limits) w j k).1 → IfOk now (λ e. IsRunning n limits left)
+  instant_runs (Ok e) told lefts =
+      let got = happened n (instant_in n draw (limits_in limits) w j k).0 e (sym told) in
+      subst (IsRunning n limits) (sym lefts) (instant_by (law.limit_at (net_of n draw (limits_in limits)) w.burst w.count) refl got.0 got.1)
   instant_runs (Err e) told lefts = tt
 
 -- a run that ends or whose next activity traps is as the law's
-pub ends_like : (left : State) (e : Ended) (x : law.Stepped × State) → law.Over e.time (over_in e.over) ≡ x.0 → left.marking ≡ x.1.marking → Steps (Err e) left x
-ends_like left e x told marking = record { told = ap told_by told; leaves = tt; marking = marking }
+pub ends_like : (n : Network) (left : State) (e : Ending) (time : ℕ) (l : law.Ending) (x : law.Stepped × State) → e ≡ ending_in n time l → law.Over time l ≡ x.0 → left.marking ≡ x.1.marking → Steps n (Err e) left x
+ends_like n left e time l x is told marking = record {
+  told = ap (λ (o : Ending). (let r : Result Event Ending = Err o in r)) is ∙ ap (told_of n) told;
+  leaves = tt;
+  marking = marking;
+}
 
 -- a step by what completes next
 pub step_is : (net : Net) (s : State) (next : Next) → next_instant net s ≡ next → law.at_next net s next ≡ law.step net s

@@ -5,18 +5,14 @@ use Rattle.std.specs.List.{list_any}
 use Rattle.std.proofs.lemmas.Option.{slice_get_within}
 use Rattle.std.proofs.lemmas.Bool.{cases_lt, eqb-true}
 use Rattle.san_law.proofs.Flags.{eq_self}
-use Rattle.san_net.proofs.TableLemmas.{got_at}
-use Rattle.san_seq.proofs.ValuesLemmas.{at_slot, inside}
-use Rattle.san_net.specs.Laid.{place_of}
-use Rattle.san_net.specs.declared.part.Slot.{Slot}
-use Rattle.san_net.specs.declared.part.Slot.TheVariants.{Private}
 use Rattle.san_base.specs.declared.numbers.LeafId.{LeafId}
 use Rattle.san_law.specs.State.{gather}
 use Rattle.san_net.specs.Laid.{places_of}
 use Rattle.san_net.specs.Network.{Network}
 use Rattle.san_net.specs.Tables.{importers_of}
 use Rattle.san_net.specs.declared.part.Part.{Part}
-use Rattle.san_seq.specs.Known.{CaughtUp, HaveSame, Raised, StayUp, Touched, TouchedAll}
+use Rattle.san_net.proofs.CellLemmas.{CaughtUp}
+use Rattle.san_seq.specs.inner.Known.{HaveSame, Raised, StayUp, Touched, TouchedAll}
 
 same_of : {X : Type 0} (x y : X) → (let o : Option X = Some x in o) ≡ Some y → x ≡ y
 same_of x y e = cc
@@ -199,44 +195,6 @@ index_here [] at v h = absurd (omega (arith, h))
 index_here (x ∷ xs) zero v h = refl
 index_here (x ∷ xs) (suc at) v h = index_here xs at v (omega (arith, h))
 
-pub caught_none : (places m xs : List ℕ) → CaughtUp (take 0 places) m xs xs
-caught_none places m xs = record { sized = refl; kept = λ q. inl refl; caught = λ i q e. absurd cc }
-
-pub caught_more : (places : List ℕ) (k at : ℕ) (m old xs : List ℕ) → slice_get places k ≡ Some at → at < length old → CaughtUp (take k places) m old xs → CaughtUp (take (k + 1) places) m old (slice_set xs at (slice_index m at))
-caught_more places k at m old xs is h so = record {
-  sized = Rattle.std.proofs.lemmas.List.length-set xs at (slice_index m at) ∙ so.sized;
-  kept = λ q. kept_by q (index_set xs at (slice_index m at) q inside);
-  caught = λ i q e. caught_by q (index_set xs at (slice_index m at) q inside) (taken_more places k i q e);
-}
-  where
-    inside : at < length xs
-    inside = omega (arith, h, so.sized)
-
-    now : List ℕ
-    now = slice_set xs at (slice_index m at)
-
-    kept_by : (q : ℕ) → (slice_index now q ≡ slice_index xs q) ⊎ ((q ≡ at) × (slice_index now q ≡ slice_index m at)) → (slice_index now q ≡ slice_index old q) ⊎ (slice_index now q ≡ slice_index m q)
-    kept_by q (inl e) = by_old (so.kept q)
-      where
-        by_old : (slice_index xs q ≡ slice_index old q) ⊎ (slice_index xs q ≡ slice_index m q) → (slice_index now q ≡ slice_index old q) ⊎ (slice_index now q ≡ slice_index m q)
-        by_old (inl f) = inl (e ∙ f)
-        by_old (inr f) = inr (e ∙ f)
-    kept_by q (inr e) = inr (e.1 ∙ ap (slice_index m) (sym e.0))
-
-    caught_by : (q : ℕ) → (slice_index now q ≡ slice_index xs q) ⊎ ((q ≡ at) × (slice_index now q ≡ slice_index m at)) → {i : ℕ} → (slice_get (take k places) i ≡ Some q) ⊎ ((i ≡ k) × (slice_get places k ≡ Some q)) → slice_index now q ≡ slice_index m q
-    caught_by q (inr e) {i} w = e.1 ∙ ap (slice_index m) (sym e.0)
-    caught_by q (inl e) {i} (inl f) = e ∙ so.caught i q f
-    caught_by q (inl e) {i} (inr f) =
-        let same : at ≡ q = same_of at q (sym is ∙ f.1) in
-        subst (λ (x : ℕ). slice_index now x ≡ slice_index m x) same (index_here xs at (slice_index m at) inside)
-
-pub caught_whole : (places : List ℕ) (k : ℕ) (m old new : List ℕ) → length places ≤ k → CaughtUp (take k places) m old new → CaughtUp places m old new
-caught_whole places k m old new h so = record { sized = so.sized; kept = so.kept; caught = λ i q e. so.caught i q (taken_all places k i q h e) }
-
--- a slot's place, by number
-pub slot_at : (slots : List Slot) (k at : ℕ) (h : k < length slots) (is : at ≡ place_of (slice_index_or slots k (Private (record { 0 = 0 })))) → slice_get (map place_of slots) k ≡ Some at
-slot_at slots k at h is = got_at (map place_of slots) k (inside slots k at h is) ∙ ap (λ (x : ℕ). (let o : Option ℕ = Some x in o)) (sym (at_slot slots k at h is))
-
 pub kept_on : (m old xs new : List ℕ) (q : ℕ) → (slice_index new q ≡ slice_index xs q) ⊎ (slice_index new q ≡ slice_index m q) → (slice_index xs q ≡ slice_index old q) ⊎ (slice_index xs q ≡ slice_index m q)
     → (slice_index new q ≡ slice_index old q) ⊎ (slice_index new q ≡ slice_index m q)
 kept_on m old xs new q (inr e) w = inr e
@@ -251,11 +209,6 @@ pub gather_at : (places a b : List ℕ) (k q : ℕ) → gather places a ≡ gath
 gather_at [] a b k q e at = absurd cc
 gather_at (p ∷ ps) a b zero q e at = let same : p ≡ q = same_of p q at in subst (λ (x : ℕ). slice_index a x ≡ slice_index b x) same (ap (λ (xs : List ℕ). slice_index xs 0) e)
 gather_at (p ∷ ps) a b (suc k) q e at = gather_at ps a b k q (ap (λ (xs : List ℕ). Rattle.std.proofs.Common.drop 1 xs) e) at
-
-pub gather_eq : (places a b : List ℕ) → ((k q : ℕ) → slice_get places k ≡ Some q → slice_index a q ≡ slice_index b q) → gather places a ≡ gather places b
-gather_eq [] a b h = refl
-gather_eq (p ∷ ps) a b h =
-    ap (λ (x : ℕ). x ∷ gather ps a) (h 0 p refl) ∙ ap (λ (xs : List ℕ). slice_index b p ∷ xs) (gather_eq ps a b (λ k q e. h (suc k) q e))
 
 flag_at : (flags : List Bool) (j : ℕ) → j < length flags → (slice_get flags j ≡ Some true) ⊎ (slice_get flags j ≡ Some false)
 flag_at [] j h = absurd (omega (arith, h))

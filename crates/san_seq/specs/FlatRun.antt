@@ -1,24 +1,22 @@
 -- A run of a network: the law's steps of its net, one after another.
-use Rattle.std.specs.Prelude.{ℕ, suc, ◌*◌, ◌+◌, ◌-◌, ◌≤◌, ◌≡◌, ◌++◌, Bool, List, [], ◌∷◌, length, Option, Some, None, Result, Ok, Err}
+use Rattle.std.specs.Prelude.{ℕ, suc, ◌+◌, ◌-◌, ◌≤◌, ◌≡◌, ◌++◌, List, [], ◌∷◌, length, Option, Some, None, Result, Ok, Err}
 use Rattle.std.specs.Option.{option_map}
 use Rattle.san_base.specs.declared.ending.Ending.{Ending}
 use Rattle.san_base.specs.declared.ending.Ending.TheVariants as ending
 use Rattle.san_base.specs.declared.ending.Event.{Event}
 use Rattle.san_base.specs.declared.limits.Limits.{Limits}
-use Rattle.san_base.specs.Limits.{IsInRange}
 use Rattle.san_draw.specs.Key.{draw_of}
 use Rattle.san_law.specs.Net.{Net}
+use Rattle.san_law.specs.Next as next
 use Rattle.san_law.specs.State.{State, opening_state}
 use Rattle.san_law.specs.Step as law
 use Rattle.san_law.specs.Trajectory as whole
-use Rattle.san_net.specs.Laid.{acts_of}
 use Rattle.san_net.specs.Network.{Network, net_of}
-use Rattle.san_seq.specs.Known.{AreIdle}
 use Rattle.san_seq.specs.Overs.{limits_in}
-use Rattle.san_seq.specs.Running.{IsRunning}
 use Rattle.san_seq.specs.Telling.{ending_in, told_of, trajectory_in}
-use Rattle.san_seq.specs.declared.flat_run.Going as code
-use Rattle.san_seq.specs.declared.flat_run.Going.TheVariants as going
+use Rattle.san_seq.specs.declared.seq.Phase.{Phase}
+use Rattle.san_seq.specs.declared.seq.Phase.TheVariants as phase
+use Rattle.san_seq.specs.declared.steps.Stable.{Stable}
 use Rattle.san_seq.specs.declared.steps.Trajectory.{Trajectory}
 
 -- a run goes on from a state, or is over: with the marking that it left, and its ending
@@ -26,9 +24,9 @@ pub data Going : Type 0 where
   On : (state : State) → Going
   Done : (marking : List ℕ) (ending : Ending) → Going
 
-abbrev pub going_in : code.Going → Going
-going_in (going.On state) = On state
-going_in (going.Done marking ending) = Done marking.items ending
+abbrev pub going_in : Phase → Going
+going_in (phase.Running state) = On state
+going_in (phase.Ended marking ending) = Done marking.items ending
 
 -- a run of a network with a seed and limits
 pub record Run : Type 0 where
@@ -101,25 +99,23 @@ TellsPrefix r = (t : Run) (es : List Event) → Tells r es t → IsPrefix r t es
 abbrev pub HasRest : Run → Type 0
 HasRest r = (t : Trajectory) × (rest_of r ≡ Some t)
 
--- what holds of a run between its steps; leaves whose flags are down have nothing to do
-abbrev pub IsGoing : Network → Limits → (ℕ → ℕ → ℕ) → List Bool → Going → Type 0
-IsGoing n limits draw stale (On s) = IsRunning n limits s × AreIdle n draw stale s
-IsGoing n limits draw stale (Done marking e) = Unit {0}
-
-pub record IsRun (n : Network) (limits : Limits) (streams seed : ℕ) (stale : List Bool) (where_it_is : Going) : Type 0 where
-  pub range : IsInRange limits
-  pub draws : 2 * acts_of n.parts ≤ streams
-  pub going : IsGoing n limits (draw_of seed) stale where_it_is
-
--- a run is held
-abbrev pub IsHeld : Network → Limits → ℕ → ℕ → List Bool → Option code.Going → Type 0
-IsHeld n limits streams seed stale None = ⊥
-IsHeld n limits streams seed stale (Some now) = IsRun n limits streams seed stale (going_in now)
-
 -- where a run that is held is
-abbrev pub going_of : Option code.Going → Going
+abbrev pub going_of : Option Phase → Going
 going_of None = Done [] (ending.End (record { 0 = 0 }))
 going_of (Some now) = going_in now
+
+-- the time and the number of events of a state in which no instantaneous activity is enabled or traps
+abbrev pub where_stable : next.Next → State → Option Stable
+where_stable next.Stable s = Some (record { time = record { 0 = s.time }; count = s.count })
+where_stable n s = None
+
+-- a run that is over is at no stable marking
+abbrev pub stable_in : Net → Going → Option Stable
+stable_in net (On s) = where_stable (next.next_instant net s) s
+stable_in net (Done marking e) = None
+
+abbrev pub stable_of : Run → Option Stable
+stable_of r = stable_in (net_in r) r.going
 
 -- the run that has not begun
 abbrev pub opening : Network → ℕ → Limits → Run

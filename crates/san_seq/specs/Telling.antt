@@ -1,27 +1,16 @@
 -- What is told of a run: its events and its ending, in the network's numbers.
-use Rattle.std.specs.Prelude.{ℕ, ◌+◌, ◌<◌, ◌≡◌, length, map, Option, Some, None, Result, Ok, Err, slice_get}
+use Rattle.std.specs.Prelude.{ℕ, map, Result, Ok, Err}
 use Rattle.san_base.specs.declared.ending.Ending.{Ending}
 use Rattle.san_base.specs.declared.ending.Ending.TheVariants as ending
 use Rattle.san_base.specs.declared.ending.Event.{Event}
 use Rattle.san_base.specs.declared.ending.Stop.TheVariants as stop
-use Rattle.san_base.specs.declared.numbers.ActId.{ActId}
 use Rattle.san_law.specs.Step as law
 use Rattle.san_law.specs.Trajectory as whole
 use Rattle.san_net.specs.Network.{Network}
-use Rattle.san_net.specs.declared.part.Part.{Part}
-use Rattle.san_seq.specs.States.{Told}
+use Rattle.san_net.specs.Tables.{act_of}
 use Rattle.san_seq.specs.declared.steps.Stepped.{Stepped}
 use Rattle.san_seq.specs.declared.steps.Stepped.TheVariants as stepped
 use Rattle.san_seq.specs.declared.steps.Trajectory.{Trajectory}
-
--- the number of a leaf's first activity
-abbrev pub first_of : Option Part → ℕ
-first_of None = 0
-first_of (Some p) = p.first.0
-
--- the network's number of an activity of a leaf
-abbrev pub act_of : Network → ℕ → ℕ → ActId
-act_of n j k = record { 0 = first_of (slice_get n.parts j) + k }
 
 abbrev pub event_in : Network → law.Event → Event
 event_in n e = record { time = record { 0 = e.time }; act = act_of n e.leaf e.act; case = e.case }
@@ -47,23 +36,3 @@ stepped_of (Err e) = stop_of e
 
 abbrev pub trajectory_in : Network → whole.Trajectory → Trajectory
 trajectory_in n t = record { events = map (event_in n) t.events; ending = ending_in n t.time t.ending }
-
--- the network has this activity in this leaf
-pub record IsActOf (n : Network) (j k : ℕ) : Type 0 where
-  pub leaf : j < length n.parts
-  pub act : (p : Part) → slice_get n.parts j ≡ Some p → k < length p.atomic.acts
-
-abbrev pub IsEndingOf : Network → law.Ending → Type 0
-IsEndingOf n law.End = Unit {0}
-IsEndingOf n law.Unstable = Unit {0}
-IsEndingOf n law.Events = Unit {0}
-IsEndingOf n (law.Trapped j k trap) = IsActOf n j k
-
--- what is told is of activities that the network has
-abbrev pub IsToldOf : Network → Result Told (ℕ × law.Ending) → Type 0
-IsToldOf n (Ok t) = IsActOf n t.leaf t.act
-IsToldOf n (Err e) = IsEndingOf n e.1
-
--- an event, without the impulses
-abbrev pub event_by : Network → Told → Event
-event_by n t = record { time = record { 0 = t.time }; act = act_of n t.leaf t.act; case = t.case }

@@ -1,13 +1,15 @@
+//! The timer that is due first.
+
 ghost use Rattle.std.specs.Prelude.{◌≡◌, ◌≤◌, ℕ, length, map};
 ghost use Rattle.std.specs.Option.{option_map};
 ghost use Rattle.san_law.specs.Net.{and_timer, least_timer, sooner_act};
 ghost use Rattle.san_law.specs.Renewal.{and_sooner, least_from};
-ghost use Rattle.san_seq.specs.Clocks.{timer_in};
-ghost use Rattle.san_seq.specs.Dues.{due_in};
-ghost use Rattle.san_seq.specs.Rows.{row_at};
+ghost use Rattle.san_clock.specs.Rows.{timer_in};
+ghost use Rattle.san_seq.specs.inner.Dues.{due_in};
+ghost use Rattle.san_seq.specs.inner.Rows.{row_at};
 
-use crate::rows::{Row, Timer};
-use san_base::LeafId;
+use san_base::{LeafId, MAX_ACTS};
+use san_clock::{Row, Timer};
 
 /// The timer that is due first: its time in ticks, its leaf, and its activity's number there.
 #[derive(Clone, Copy, Debug, PartialEq, Eq)]
@@ -32,10 +34,10 @@ fn and_timer(act: u32, timer: Option<Timer>, rest: Option<(u64, u32)>) -> Option
 
 /// The least timer of a row: when it is due, and its activity; for equal times the first activity's.
 fn least_of(row: &Row) -> Option<(u64, u32)>
-    requires { length row.now.timers ≤ 65536 }
+    requires { length row.now.timers ≤ MAX_ACTS }
     ensures { result ≡ least_timer row.now }
 {
-    let timers = row.timers.as_slice();
+    let timers = row.timers();
     let mut least = None;
     let mut k = timers.len();
     'acts: while k > 0 {
@@ -64,8 +66,8 @@ fn and_sooner(leaf: LeafId, least: Option<(u64, u32)>, rest: Option<Due>) -> Opt
 
 /// The timer that is due first; for equal times the first leaf's.
 pub(crate) fn least_due(rows: &[Row]) -> Option<Due>
-    requires few { length rows.now ≤ 65536 }
-    requires small { (j : ℕ) → length (row_at rows.now j).timers ≤ 65536 }
+    requires few { length rows.now ≤ MAX_ACTS }
+    requires small { (j : ℕ) → length (row_at rows.now j).timers ≤ MAX_ACTS }
     ensures { option_map due_in result ≡ least_from 0 (map least_timer rows.now) }
 {
     let mut least = None;

@@ -1,3 +1,5 @@
+//! Laws: what the events of a run are.
+
 ghost use Rattle.std.specs.Prelude.{◌≡◌, ◌<◌, ℕ, List, length, Option, Some};
 ghost use Rattle.san_law.specs.Network.{Limits};
 ghost use Rattle.san_law.specs.Next.{next_instant};
@@ -5,7 +7,7 @@ ghost use Rattle.san_law.specs.State.{State};
 ghost use Rattle.san_net.specs.Laid.{IsNetwork};
 ghost use Rattle.san_net.specs.Network.{Network, net_of};
 ghost use Rattle.san_seq.specs.FlatRun.{HasRest, Run, TellsPrefix};
-ghost use Rattle.san_seq.specs.Nexts.{next_among};
+ghost use Rattle.san_seq.specs.inner.Nexts.{next_among};
 ghost use Rattle.san_seq.specs.Reaching.{EventsAreInTime, EventsAreTheLaws};
 
 /// What completes next among a network's parts is what the law says of its net, whatever the draws

@@ -1,14 +1,18 @@
-ghost use Rattle.std.specs.Prelude.{◌≡◌, ◌≤◌, ◌<◌, ◌+◌, ◌*◌, ◌^◌, ℕ, length, slice_get, slice_index, Some};
+//! The state of a run, and a completion in it.
+
+ghost use Rattle.std.specs.Prelude.{◌≡◌, ◌≤◌, ◌<◌, ◌+◌, ◌*◌, ◌^◌, ℕ, length, slice_index};
 ghost use Rattle.san_draw.specs.Key.{draw_of};
 ghost use Rattle.san_law.specs.Network.{Limits};
+ghost use Rattle.san_law.specs.Step as law_step;
 ghost use Rattle.san_net.specs.Laid.{acts_of};
-ghost use Rattle.san_net.specs.declared.part.Part.{Part};
-ghost use Rattle.san_seq.specs.Rows.{AreRows, row_at};
-ghost use Rattle.san_seq.specs.States.{case_by, complete_in, told_by};
+ghost use Rattle.san_net.specs.Tables.{IsActOf};
+ghost use Rattle.san_seq.specs.inner.Rows.{AreRows, row_at};
+ghost use Rattle.san_seq.specs.inner.States.{complete_in};
+ghost use Rattle.san_seq.specs.Telling.{ending_in, told_of};
 
-use crate::completion::completed_at;
-use crate::rows::Row;
-use san_base::{LeafId, Trap};
+use crate::completion::complete_at;
+use san_base::{Ending, Event, LeafId, Stop, Tick, Trap};
+use san_clock::Row;
 use san_draw::Streams;
 use san_net::Flat;
 use std::marker::Model;
@@ -35,7 +39,15 @@ impl Model for State {
     ghost view = { λ s. record { time = s.time; marking = s.marking.items; stable = s.stable.items; rows = s.rows.items; burst = s.burst; last = option_map (λ leaf. leaf.0) s.last; count = s.count } };
 }
 
-/// Completes an activity of a leaf, which gives the burst: its case. A trap leaves the state as it
+/// The ending of a run by an activity that traps at a time.
+pub(crate) fn trapped(flat: &Flat, time: u64, leaf: LeafId, act: u32, trap: Trap) -> Ending
+    requires { IsActOf flat.now leaf.0 act }
+    ensures { result ≡ ending_in flat.now time (law_step.Trapped leaf.0 act trap) }
+{
+    Ending::Stop(Stop::Trap(trap, Tick(time), flat.act_of(leaf, act)))
+}
+
+/// Completes an activity of a leaf, which gives the burst: its event. A trap leaves the state as it
 /// was.
 pub(crate) fn complete(
     flat: &Flat,
@@ -44,55 +56,48 @@ pub(crate) fn complete(
     act: u32,
     burst: u64,
     state: State,
-) -> (Result<u32, Trap>, State)
-    requires leaf { leaf.0 < length flat.now.parts }
-    requires act { (p : Part) → slice_get flat.now.parts leaf.0 ≡ Some p
-        → act < length p.atomic.acts }
+) -> (Result<Event, Ending>, State)
+    requires act { IsActOf flat.now leaf.0 act }
     requires sized { length state.marking ≡ length flat.now.initial }
     requires rows { AreRows flat.now.parts state.rows }
     requires streams { 2 * acts_of flat.now.parts ≤ streams.old.streams }
     requires number { slice_index (row_at state.rows leaf.0).cases act + 1 < 2 ^ 40 }
     requires count { state.count + 1 < 2 ^ 40 }
-    ensures told { (limits : Limits) → case_by state.time leaf.0 act result.0
-        ≡ told_by (complete_in flat.now (draw_of streams.old.seed) limits state burst leaf.0
-        act).0 }
+    ensures told { (limits : Limits) → result.0
+        ≡ told_of flat.now (complete_in flat.now (draw_of streams.old.seed) limits state burst
+        leaf.0 act).0 }
     ensures left { (limits : Limits) → result.1
         ≡ (complete_in flat.now (draw_of streams.old.seed) limits state burst leaf.0 act).1 }
     ensures streams { streams.new ≡ streams.old }
 {
     let mut rows = state.rows;
-    let (case, marking) = completed_at(
-        flat,
-        streams,
-        leaf,
-        act,
-        &mut rows[leaf.0 as usize],
-        state.marking,
-    );
+    let row = &mut rows[leaf.0 as usize];
+    let (case, marking) = complete_at(flat, streams, leaf, act, row, state.marking);
     match case {
         Ok(case) => {
+            let event = Event {
+                time: Tick(state.time),
+                act: flat.act_of(leaf, act),
+                case,
+            };
             let left = State {
-                time: state.time,
                 marking,
-                stable: state.stable,
                 rows,
                 burst,
                 last: Some(leaf),
                 count: state.count + 1,
+                ..state
             };
-            (Ok(case), left)
+            (Ok(event), left)
         }
         Err(trap) => {
+            let ending = trapped(flat, state.time, leaf, act, trap);
             let left = State {
-                time: state.time,
                 marking,
-                stable: state.stable,
                 rows,
-                burst: state.burst,
-                last: state.last,
-                count: state.count,
+                ..state
             };
-            (Err(trap), left)
+            (Err(ending), left)
         }
     }
 }

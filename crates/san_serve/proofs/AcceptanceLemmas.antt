@@ -7,20 +7,20 @@ use Rattle.san_text.specs.declared.syntax.Syntax.{Syntax}
 use Rattle.san_text.specs.declared.text.Parsed.{Parsed}
 use Rattle.san_text.specs.declared.text.Refusal.{Refusal}
 use Rattle.san_text.proofs.CountLemmas.{spots_length}
-use Rattle.san_check.specs.Cells.{elements_of}
+use Rattle.san_check.specs.build.Cells.{elements_of}
 use Rattle.san_check.specs.Checked.{IsRead}
-use Rattle.san_check.specs.Entries.{code, ◌else◌, told}
-use Rattle.san_check.specs.Nets.{atomics_of}
-use Rattle.san_check.specs.Nodes.{nodes_of, root_of}
-use Rattle.san_check.specs.Spans.{rewards_of}
-use Rattle.san_check.specs.Texts.{syntax_fault}
+use Rattle.san_check.specs.walk.Entries.{code, ◌else◌, told}
+use Rattle.san_check.specs.build.Atomic.{atomics_of}
+use Rattle.san_check.specs.build.Composition.{nodes_of, root_of}
+use Rattle.san_check.specs.build.Reward.{rewards_of}
+use Rattle.san_check.specs.walk.Model.{syntax_fault}
 use Rattle.san_check.specs.declared.model.Model.{Model}
 use Rattle.san_check.specs.declared.walk.Fault.{Fault}
 use Rattle.san_check.proofs.WordLemmas.{word_is_there}
 use Rattle.san_flat.specs.Flattened.{limit_passed}
 use Rattle.san_flat.specs.Networks.{Composition, composition_in, count_of_acts, count_of_leaves, count_of_places, network_in, network_of_model}
-use Rattle.san_flat.specs.declared.flattening.FlatFault.{FlatFault}
-use Rattle.san_flat.specs.declared.flattening.FlatFault.TheVariants as fault
+use Rattle.san_flat.specs.declared.network.FlatFault.{FlatFault}
+use Rattle.san_flat.specs.declared.network.FlatFault.TheVariants as fault
 use Rattle.san_net.specs.Network.{Network}
 use Rattle.san_serve.specs.Accepted.{accepted, accepted_syntax, checked, composition_of, limit_of, offset_of_word, within_limits}
 use Rattle.san_serve.specs.inner.Accepted.{AcceptsNetwork}

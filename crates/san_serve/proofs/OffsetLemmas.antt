@@ -1,6 +1,6 @@
 -- A text has no more words than bytes, so each word's number is told as it is.
 use Rattle.std.proofs.Common.{◌≡◌, ℕ, suc, ◌≤◌, Bool, true, false, cond, List, [], ◌∷◌, length, Ok, ap, arith}
-use Rattle.san_lex.specs.Lexing.{Placed}
+use Rattle.san_lex.specs.Lexer.{Located}
 use Rattle.san_check.proofs.FormedLemmas.{tokens_within}
 use Rattle.san_text.specs.declared.text.Before.{Before}
 use Rattle.san_text.specs.declared.text.Before.TheVariants as before
@@ -12,7 +12,7 @@ one_more : (c : Bool) (offset n : ℕ) (offsets : List ℕ) → length offsets �
 one_more true offset n offsets h = omega (arith, h)
 one_more false offset n offsets h = omega (arith, h)
 
-spots_within : (b : Before) (ps : List Placed) → length (spots_after b ps) ≤ length ps
+spots_within : (b : Before) (ps : List Located) → length (spots_after b ps) ≤ length ps
 spots_within b [] = omega arith
 spots_within b (p ∷ ps) = one_more (is_counted b p.word) p.start (length ps) (spots_after (after_word b p.word) ps) (spots_within (after_word b p.word) ps)
 

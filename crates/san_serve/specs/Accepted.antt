@@ -5,12 +5,12 @@ use Rattle.san_text.specs.Texts.{parsed, refused}
 use Rattle.san_text.specs.declared.syntax.Syntax.{Syntax}
 use Rattle.san_text.specs.declared.text.Parsed.{Parsed}
 use Rattle.san_text.specs.declared.text.Refusal.{Refusal}
-use Rattle.san_check.specs.Cells.{elements_of}
-use Rattle.san_check.specs.Entries.{code, ◌else◌}
-use Rattle.san_check.specs.Nets.{atomics_of}
-use Rattle.san_check.specs.Nodes.{nodes_of, root_of}
-use Rattle.san_check.specs.Spans.{rewards_of}
-use Rattle.san_check.specs.Texts.{syntax_fault}
+use Rattle.san_check.specs.build.Cells.{elements_of}
+use Rattle.san_check.specs.walk.Entries.{code, ◌else◌}
+use Rattle.san_check.specs.build.Atomic.{atomics_of}
+use Rattle.san_check.specs.build.Composition.{nodes_of, root_of}
+use Rattle.san_check.specs.build.Reward.{rewards_of}
+use Rattle.san_check.specs.walk.Model.{syntax_fault}
 use Rattle.san_check.specs.declared.walk.Fault.{Fault}
 use Rattle.san_flat.specs.Networks.{Composition, count_of_acts, count_of_leaves, count_of_places, network_in}
 use Rattle.san_net.specs.Network.{Network}

@@ -3,12 +3,12 @@ use Rattle.std.proofs.Common.{◌≡◌, List, [], ◌∷◌, ◌++◌, ℕ, sym
 use Rattle.san_base.specs.declared.op.Op.{Op}
 use Rattle.san_lex.specs.declared.sign.Mark.TheVariants as mark
 use Rattle.san_lex.specs.declared.sign.Sign.TheVariants as sign
-use Rattle.san_lex.specs.Lexing.{Word, Name, Fixed}
+use Rattle.san_lex.specs.Lexer.{Word, Name, Fixed}
 use Rattle.san_text.specs.declared.syntax.Ast.{Ast}
 use Rattle.san_text.specs.declared.syntax.Ast.TheViews as ast
 use Rattle.san_text.specs.Spelling.{spelling}
 use Rattle.san_text.proofs.ExprLemmas.{spell_binary, spell_group, spell_cell}
-use Rattle.san_show.specs.Pages.{Written, put, written}
+use Rattle.san_show.specs.inner.Pages.{Written, put, written}
 use Rattle.san_show.proofs.PageLemmas.{also}
 
 pub group_shown : (e x x1 : Ast) (p p1 p2 p3 : Written) → e ≡ ast.Group x → x1 ≡ x → p1 ≡ put p (Fixed (sign.Mark mark.OpenParen)) → p2 ≡ written p1 (spelling x1) → p3 ≡ put p2 (Fixed (sign.Mark mark.CloseParen)) → p3 ≡ written p (spelling e)

@@ -3,7 +3,7 @@ use Rattle.std.proofs.Common.{◌≡◌, ℕ, zero, suc, ◌+◌, ◌-◌, ◌*�
 use Rattle.std.proofs.lemmas.List.{append-nil, take_all}
 use Rattle.std.proofs.lemmas.Result.{on_ok_weaker}
 use Rattle.std.specs.Prelude.{OnOk}
-use Rattle.san_lex.specs.Lexing.{Word, Number, Name, Fixed}
+use Rattle.san_lex.specs.Lexer.{Word, Number, Name, Fixed}
 use Rattle.san_lex.specs.declared.sign.Mark.TheVariants as mark
 use Rattle.san_lex.specs.declared.sign.Sign.{Sign}
 use Rattle.san_lex.specs.declared.sign.Sign.TheVariants as sign
@@ -11,7 +11,7 @@ use Rattle.san_lex.specs.Layout as layout
 use Rattle.san_lex.specs.Layout.{gap, spaces, text_of, ending, before, hugs, closes, depth_after, sign_text, sign_hugs, sign_closes, sign_before, sign_depth}
 use Rattle.san_text.specs.Spelling.{joined}
 use Rattle.san_text.specs.ActivityWords.{with_commas}
-use Rattle.san_show.specs.Pages.{Written, put, written, gap_by, put_by}
+use Rattle.san_show.specs.inner.Pages.{Written, put, written, gap_by, put_by}
 
 pub written_append : (us vs : List Word) (p : Written) → written p (us ++ vs) ≡ written (written p us) vs
 written_append [] vs p = refl

@@ -3,14 +3,14 @@ use Rattle.std.proofs.Common.{◌≡◌, ℕ, ◌<◌, List, [], ◌∷◌, ◌+
 use Rattle.san_lex.specs.declared.sign.Keyword.TheVariants as keyword
 use Rattle.san_lex.specs.declared.sign.Mark.TheVariants as mark
 use Rattle.san_lex.specs.declared.sign.Sign.TheVariants as sign
-use Rattle.san_lex.specs.Lexing.{Word, Name, Fixed}
+use Rattle.san_lex.specs.Lexer.{Word, Name, Fixed}
 use Rattle.san_text.specs.declared.syntax.Ast.{Ast}
 use Rattle.san_text.specs.declared.syntax.StmtDecl.{StmtDecl}
 use Rattle.san_text.specs.declared.syntax.StmtDecl.TheViews as stmt
 use Rattle.san_text.specs.declared.syntax.StmtDecl.TheVariants as plain
 use Rattle.san_text.specs.Spelling.{spelling, else_words, stmt_words, body_words}
 use Rattle.san_text.proofs.StmtLemmas.{words_set, words_cell, words_if}
-use Rattle.san_show.specs.Pages.{Written, put, written}
+use Rattle.san_show.specs.inner.Pages.{Written, put, written}
 use Rattle.san_show.proofs.PageLemmas.{also}
 
 pub else_none : (ys : List StmtDecl) → length ys ≡ 0 → else_words (map stmt_words ys) ≡ []

@@ -1,6 +1,8 @@
+//! Places and activities as their canonical text.
+
 ghost use Rattle.std.specs.Prelude.{◌≡◌, OnOk};
 ghost use Rattle.san_text.specs.ActivityWords.{length_words, initial_words, place_words, number_words, arc_words, function_words, input_words, output_words, case_words, cases_words, entry_words, dist_words, pair_words, timing_words, priority_words, timed_words, instant_words, act_words};
-ghost use Rattle.san_show.specs.Pages.{written};
+ghost use Rattle.san_show.specs.inner.Pages.{written};
 
 use crate::expression::show_expr;
 use crate::list::{Shown, show_all, show_with_commas};

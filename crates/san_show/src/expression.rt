@@ -1,6 +1,9 @@
-ghost use Rattle.std.specs.Prelude.{◌≡◌, OnOk};
+//! Expressions as their canonical text.
+
+ghost use Rattle.std.specs.Prelude.{◌≡◌, ◌∷◌, OnOk};
+ghost use Rattle.san_lex.specs.Lexer.{Fixed};
 ghost use Rattle.san_text.specs.Spelling.{spelling};
-ghost use Rattle.san_show.specs.Pages.{written};
+ghost use Rattle.san_show.specs.inner.Pages.{written};
 
 use crate::page::Page;
 use san_base::NoMemory;
@@ -8,8 +11,9 @@ use san_lex::{Mark, Op, Sign};
 use san_text::Ast;
 
 /// Writes an expression.
+#[cycle(expressions)]
 #[tactic(auto, using(crate::proofs::PageLemmas::written_append), unfolding(san_text::specs::Spelling::spelling))]
-pub fn show_expr(page: &mut Page, e: &Ast) -> Result<(), NoMemory>
+pub(crate) fn show_expr(page: &mut Page, e: &Ast) -> Result<(), NoMemory>
     ensures { OnOk result (page.new ≡ written page.old (spelling e.now)) }
 {
     match e {
@@ -22,14 +26,8 @@ pub fn show_expr(page: &mut Page, e: &Ast) -> Result<(), NoMemory>
             page.put_mark(Mark::CloseBracket)?;
             Ok(())
         }
-        Ast::Neg(x) => {
-            page.put_sign(Sign::Operator(Op::Sub))?;
-            show_expr(page, x.get())
-        }
-        Ast::Not(x) => {
-            page.put_sign(Sign::Not)?;
-            show_expr(page, x.get())
-        }
+        Ast::Neg(x) => show_signed(page, Sign::Operator(Op::Sub), x.get()),
+        Ast::Not(x) => show_signed(page, Sign::Not, x.get()),
         Ast::Group(x) => {
             page.put_mark(Mark::OpenParen)?;
             show_expr(page, x.get())?;
@@ -43,4 +41,13 @@ pub fn show_expr(page: &mut Page, e: &Ast) -> Result<(), NoMemory>
             Ok(())
         }
     }
+}
+
+/// Writes a sign and its operand.
+#[cycle(expressions)]
+fn show_signed(page: &mut Page, sign: Sign, e: &Ast) -> Result<(), NoMemory>
+    ensures { OnOk result (page.new ≡ written page.old (Fixed sign ∷ spelling e.now)) }
+{
+    page.put_sign(sign)?;
+    show_expr(page, e)
 }

@@ -1,3 +1,5 @@
+//! The law of canonical texts: they are read again.
+
 ghost use Rattle.std.specs.Prelude.{◌≡◌, ℕ, List, Ok};
 ghost use Rattle.san_text.specs.declared.text.Parsed.{Parsed};
 ghost use Rattle.san_text.specs.Texts.{parsed};

@@ -7,7 +7,6 @@ mod laws;
 mod list;
 mod model;
 mod page;
-mod sign;
 mod statement;
 mod text;
 

@@ -1,10 +1,12 @@
+//! Items one after another, and with commas between them.
+
 ghost use Rattle.std.specs.Prelude.{◌≡◌, List, ◌∷◌, map, OnOk};
 ghost use Rattle.san_lex.specs.declared.sign.Mark.TheVariants.{Comma};
 ghost use Rattle.san_lex.specs.declared.sign.Sign.TheVariants.{Mark as MarkSign};
-ghost use Rattle.san_lex.specs.Lexing.{Word, Fixed};
+ghost use Rattle.san_lex.specs.Lexer.{Word, Fixed};
 ghost use Rattle.san_text.specs.Spelling.{joined};
 ghost use Rattle.san_text.specs.ActivityWords.{with_commas};
-ghost use Rattle.san_show.specs.Pages.{written};
+ghost use Rattle.san_show.specs.inner.Pages.{written};
 
 use crate::page::Page;
 use san_base::NoMemory;
@@ -20,7 +22,7 @@ pub trait Shown {
 
 /// Writes items one after another.
 #[tactic(auto, using(crate::proofs::PageLemmas::items_turn, crate::proofs::PageLemmas::items_end))]
-pub fn show_all<T: Shown>(page: &mut Page, items: &[T]) -> Result<(), NoMemory>
+pub(crate) fn show_all<T: Shown>(page: &mut Page, items: &[T]) -> Result<(), NoMemory>
     ensures { OnOk result (page.new ≡ written page.old (joined (map T.words items.now))) }
 {
     'next: for item in items {
@@ -43,7 +45,7 @@ fn show_behind_commas<T: Shown>(page: &mut Page, items: &[T]) -> Result<(), NoMe
 }
 
 /// Writes items with commas between them.
-pub fn show_with_commas<T: Shown>(page: &mut Page, items: &[T]) -> Result<(), NoMemory>
+pub(crate) fn show_with_commas<T: Shown>(page: &mut Page, items: &[T]) -> Result<(), NoMemory>
     ensures { OnOk result (page.new ≡ written page.old (with_commas T.words items.now)) }
 {
     match items {

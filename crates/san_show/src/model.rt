@@ -1,7 +1,9 @@
+//! Atomics, joins, replicates, rewards and a whole syntax as their canonical text.
+
 ghost use Rattle.std.specs.Prelude.{◌≡◌, OnOk};
 ghost use Rattle.san_text.specs.declared.syntax.ModelDecl.TheVariants.{Atomic, Join, Rep};
 ghost use Rattle.san_text.specs.ModelWords.{child_words, part_words, share_words, shown_words, model_words, span_words, term_words, reward_words, syntax_words};
-ghost use Rattle.san_show.specs.Pages.{written};
+ghost use Rattle.san_show.specs.inner.Pages.{written};
 
 use crate::expression::show_expr;
 use crate::list::{Shown, show_all, show_with_commas};
@@ -207,7 +209,7 @@ impl Shown for RewardDecl {
 
 /// Writes a whole syntax.
 #[tactic(auto, using(crate::proofs::PageLemmas::written_append), unfolding(san_text::specs::ModelWords::syntax_words))]
-pub fn show_syntax(page: &mut Page, syntax: &Syntax) -> Result<(), NoMemory>
+pub(crate) fn show_syntax(page: &mut Page, syntax: &Syntax) -> Result<(), NoMemory>
     ensures { OnOk result (page.new ≡ written page.old (syntax_words syntax.now)) }
 {
     page.put_keyword(Keyword::San)?;

@@ -1,11 +1,12 @@
+//! A text that grows by words, with the blanks between them.
+
 ghost use Rattle.std.specs.Prelude.{◌≡◌, ◌++◌, ◌*◌, false, [], codes, OnOk, IfOk};
 ghost use Rattle.san_lex.specs.declared.sign.Sign.TheVariants.{Keyword as KeywordSign, Mark as MarkSign};
-ghost use Rattle.san_lex.specs.Lexing.{Number, Name as Named, Fixed};
+ghost use Rattle.san_lex.specs.Lexer.{Number, Name as Named, Fixed};
 ghost use Rattle.san_lex.specs.Layout.{sign_before, sign_hugs, sign_closes, sign_depth, spaces, ending};
 ghost use Rattle.san_lex.specs.Layout as layout;
-ghost use Rattle.san_show.specs.Pages.{before_of, put, gap_by, put_by};
+ghost use Rattle.san_show.specs.inner.Pages.{before_of, put, gap_by, put_by};
 
-use crate::sign::sign_text;
 use itoa::Buffer;
 use san_base::{Name, NoMemory};
 use san_lex::{Keyword, Mark, Sign};
@@ -146,7 +147,7 @@ pub struct Page {
 }
 
 impl Model for Page {
-    ghost use Rattle.san_show.specs.Pages.{Written, before_of as before_told};
+    ghost use Rattle.san_show.specs.inner.Pages.{Written, before_of as before_told};
 
     ghost Value = { Written };
 
@@ -154,7 +155,7 @@ impl Model for Page {
 }
 
 impl Page {
-    pub fn new(alloc: Global) -> Page
+    pub(crate) fn new(alloc: Global) -> Page
         ensures { result ≡ record { bytes = []; before = layout.Line; depth = 0 } }
     {
         Page {
@@ -164,7 +165,7 @@ impl Page {
         }
     }
 
-    pub fn into_bytes(self) -> Vec<u8>
+    pub(crate) fn into_bytes(self) -> Vec<u8>
         ensures { result.items ≡ self.bytes }
     {
         self.bytes
@@ -196,15 +197,15 @@ impl Page {
     }
 
     #[tactic(auto, using(crate::proofs::PageLemmas::put_fixed))]
-    pub fn put_sign(&mut self, sign: Sign) -> Result<(), NoMemory>
+    pub(crate) fn put_sign(&mut self, sign: Sign) -> Result<(), NoMemory>
         ensures { OnOk result (self.new ≡ put self.old (Fixed sign)) }
     {
         let depth = depth_behind(sign, self.depth)?;
-        self.put(sign_text(sign), sign_shape(sign), depth)
+        self.put(sign.text(), sign_shape(sign), depth)
     }
 
     #[tactic(auto, using(crate::proofs::PageLemmas::put_named))]
-    pub fn put_name(&mut self, name: &Name) -> Result<(), NoMemory>
+    pub(crate) fn put_name(&mut self, name: &Name) -> Result<(), NoMemory>
         ensures { OnOk result (self.new ≡ put self.old (Named name.now)) }
     {
         self.put_text(name.as_bytes())
@@ -212,27 +213,27 @@ impl Page {
 
     /// Writes the name that stands before a priority.
     #[tactic(auto, using(crate::proofs::PageLemmas::put_named))]
-    pub fn put_priority_name(&mut self) -> Result<(), NoMemory>
+    pub(crate) fn put_priority_name(&mut self) -> Result<(), NoMemory>
         ensures { OnOk result (self.new ≡ put self.old (Named (codes "priority"))) }
     {
         self.put_text(b"priority")
     }
 
     #[tactic(auto, using(crate::proofs::PageLemmas::put_numbered), unfolding(san_lex::specs::Layout::text_of))]
-    pub fn put_number(&mut self, number: u64) -> Result<(), NoMemory>
+    pub(crate) fn put_number(&mut self, number: u64) -> Result<(), NoMemory>
         ensures { OnOk result (self.new ≡ put self.old (Number number)) }
     {
         let mut digits = Buffer::new();
         self.put_text(digits.format(number).as_bytes())
     }
 
-    pub fn put_keyword(&mut self, keyword: Keyword) -> Result<(), NoMemory>
+    pub(crate) fn put_keyword(&mut self, keyword: Keyword) -> Result<(), NoMemory>
         ensures { OnOk result (self.new ≡ put self.old (Fixed (KeywordSign keyword))) }
     {
         self.put_sign(Sign::Keyword(keyword))
     }
 
-    pub fn put_mark(&mut self, mark: Mark) -> Result<(), NoMemory>
+    pub(crate) fn put_mark(&mut self, mark: Mark) -> Result<(), NoMemory>
         ensures { OnOk result (self.new ≡ put self.old (Fixed (MarkSign mark))) }
     {
         self.put_sign(Sign::Mark(mark))

@@ -1,6 +1,8 @@
+//! Statements and blocks as their canonical text.
+
 ghost use Rattle.std.specs.Prelude.{◌≡◌, map, OnOk};
 ghost use Rattle.san_text.specs.Spelling.{stmt_words, stmts_words, body_words, else_words};
-ghost use Rattle.san_show.specs.Pages.{written};
+ghost use Rattle.san_show.specs.inner.Pages.{written};
 
 use crate::expression::show_expr;
 use crate::page::Page;
@@ -59,7 +61,7 @@ fn show_else(page: &mut Page, body: &[StmtDecl]) -> Result<(), NoMemory>
 /// Writes a block.
 #[cycle(stmts)]
 #[tactic(auto, using(crate::proofs::PageLemmas::written_append))]
-pub fn show_block(page: &mut Page, body: &[StmtDecl]) -> Result<(), NoMemory>
+pub(crate) fn show_block(page: &mut Page, body: &[StmtDecl]) -> Result<(), NoMemory>
     ensures { OnOk result (page.new ≡ written page.old (body_words body.now)) }
 {
     page.put_mark(Mark::OpenBrace)?;

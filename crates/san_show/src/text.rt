@@ -1,3 +1,5 @@
+//! The canonical text of a syntax.
+
 ghost use Rattle.std.specs.Prelude.{◌≡◌, IfOk};
 ghost use Rattle.san_show.specs.Canonical.{canonical};
 

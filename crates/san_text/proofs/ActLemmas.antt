@@ -6,7 +6,7 @@ use Rattle.std.proofs.lemmas.Slice.Eq.{bytes_eq-Decides}
 use Rattle.san_lex.specs.declared.sign.Keyword.TheVariants as keyword
 use Rattle.san_lex.specs.declared.sign.Mark.TheVariants as mark
 use Rattle.san_lex.specs.declared.sign.Sign.TheVariants as sign
-use Rattle.san_lex.specs.Lexing.{Word, Number, Name, Fixed}
+use Rattle.san_lex.specs.Lexer.{Word, Number, Name, Fixed}
 use Rattle.san_text.specs.declared.syntax.Ast.{Ast}
 use Rattle.san_text.specs.declared.syntax.Cases.{Cases}
 use Rattle.san_text.specs.declared.syntax.CaseDecl.{CaseDecl}
@@ -18,7 +18,7 @@ use Rattle.san_text.specs.declared.syntax.DistDecl.TheVariants as dist
 use Rattle.san_text.specs.declared.syntax.Timing.{Timing}
 use Rattle.san_text.specs.declared.syntax.ActDecl.{ActDecl}
 use Rattle.san_text.specs.Words.{look, is_next, tail, name_of, has_priorities}
-use Rattle.san_text.specs.Reading.{next_keyword}
+use Rattle.san_text.specs.Steps.{next_keyword}
 use Rattle.san_text.specs.Activities.{starts_input, entry_at, more_entry, entries_at, det_at, uniform_at, geom_at, table_at, dist_at, react_at, pair_at, timing_at, timed_at, is_called, priority_at, instant_at, act_at, starts_act, starts_output}
 use Rattle.san_text.specs.Spelling.{spelling}
 use Rattle.san_text.specs.ActivityWords.{output_words, case_words, entry_words, with_commas, dist_words, react_words, pair_words, timing_words, priority_words, act_by, act_words}

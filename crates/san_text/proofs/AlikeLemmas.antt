@@ -3,7 +3,7 @@ use Rattle.std.proofs.Common.{◌≡◌, Bool, true, false, cond, List, [], ◌�
 use Rattle.san_lex.specs.declared.sign.Keyword.TheVariants as keyword
 use Rattle.san_lex.specs.declared.sign.Mark.TheVariants as mark
 use Rattle.san_lex.specs.declared.sign.Sign.TheVariants as sign
-use Rattle.san_lex.specs.Lexing.{Word, Fixed}
+use Rattle.san_lex.specs.Lexer.{Word, Fixed}
 use Rattle.san_lex.specs.Words.{said}
 use Rattle.san_lex.proofs.SaidLemmas.{said_append}
 use Rattle.san_text.specs.declared.text.Before.{Before}

@@ -4,7 +4,7 @@ use Rattle.std.proofs.lemmas.List.{append-nil}
 use Rattle.san_lex.specs.declared.sign.Keyword.TheVariants as keyword
 use Rattle.san_lex.specs.declared.sign.Mark.TheVariants as mark
 use Rattle.san_lex.specs.declared.sign.Sign.TheVariants as sign
-use Rattle.san_lex.specs.Lexing.{Word, Fixed}
+use Rattle.san_lex.specs.Lexer.{Word, Fixed}
 use Rattle.san_text.specs.declared.syntax.Ast.{Ast}
 use Rattle.san_text.specs.declared.syntax.StmtDecl.{StmtDecl}
 use Rattle.san_text.specs.declared.syntax.InputDecl.{InputDecl}
@@ -15,7 +15,7 @@ use Rattle.san_text.specs.declared.syntax.Cases.{Cases}
 use Rattle.san_text.specs.declared.syntax.Cases.TheVariants as cases
 use Rattle.san_text.specs.declared.syntax.CaseDecl.{CaseDecl}
 use Rattle.san_text.specs.Words.{look, is_next, tail, number_of}
-use Rattle.san_text.specs.Reading.{Fault, ◌>>=◌, sign_at, many, next_mark, next_keyword}
+use Rattle.san_text.specs.Steps.{Fault, ◌>>=◌, sign_at, many, next_mark, next_keyword}
 use Rattle.san_text.specs.Statements.{block}
 use Rattle.san_text.specs.Activities.{arc_at, function_at, input_arc, gate_at, input_at, starts_input, output_arc, body_at, output_at, starts_output, case_at, weighted_at, plain_at, cases_at}
 use Rattle.san_text.specs.Spelling.{spelling, body_words}

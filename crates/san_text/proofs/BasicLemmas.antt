@@ -1,9 +1,9 @@
 -- What names, numbers, expressions and lists owe as readers.
 use Rattle.std.proofs.Common.{◌≡◌, ℕ, zero, suc, ◌≤◌, Bool, true, false, cond, List, [], ◌∷◌, ◌++◌, length, map, Ok, Option, Some, None, refl, sym, ap, subst, ◌∙◌, append_assoc, arith}
 use Rattle.std.proofs.lemmas.List.{length-append}
-use Rattle.san_lex.specs.Lexing.{Word, Number, Name, Fixed}
+use Rattle.san_lex.specs.Lexer.{Word, Number, Name, Fixed}
 use Rattle.san_text.specs.Words.{look, name_of, number_of}
-use Rattle.san_text.specs.Reading.{Reads, ◌>>=◌, name_at, number_at, number_or_none, many, all_of}
+use Rattle.san_text.specs.Steps.{Reads, ◌>>=◌, name_at, number_at, number_or_none, many, all_of}
 use Rattle.san_text.specs.Expressions.{expr}
 use Rattle.san_text.specs.Spelling.{spelling, joined}
 use Rattle.san_text.specs.ActivityWords.{number_words}

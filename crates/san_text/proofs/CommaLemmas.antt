@@ -2,9 +2,9 @@
 use Rattle.std.proofs.Common.{◌≡◌, true, false, List, [], ◌∷◌, ◌++◌, Result, Ok, Err, refl, ap, subst, ◌∙◌, append_assoc}
 use Rattle.san_lex.specs.declared.sign.Mark.TheVariants as mark
 use Rattle.san_lex.specs.declared.sign.Sign.TheVariants as sign
-use Rattle.san_lex.specs.Lexing.{Word, Fixed}
+use Rattle.san_lex.specs.Lexer.{Word, Fixed}
 use Rattle.san_text.specs.Words.{is_next, tail}
-use Rattle.san_text.specs.Reading.{Fault, Reads, ◌>>=◌, all_of, gathered, next_mark}
+use Rattle.san_text.specs.Steps.{Fault, Reads, ◌>>=◌, all_of, gathered, next_mark}
 use Rattle.san_text.specs.ActivityWords.{with_commas}
 use Rattle.san_text.proofs.FrontLemmas.{bind_ok, ok_is, then_ok, next_is, next_self}
 use Rattle.san_text.proofs.AlikeLemmas.{alike_is, alike_then, alike_front, alike_parts}

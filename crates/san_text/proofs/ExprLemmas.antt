@@ -9,11 +9,11 @@ use Rattle.san_lex.specs.declared.sign.Mark.TheVariants as mark
 use Rattle.san_text.specs.declared.syntax.Ast.{Ast}
 use Rattle.san_text.specs.declared.syntax.Ast.TheViews as ast
 use Rattle.san_text.specs.declared.syntax.Ast.TheVariants as leaf
-use Rattle.san_lex.specs.Lexing.{Word, Number, Name, Fixed}
-use Rattle.san_text.specs.declared.expr.Begin.{Begin}
-use Rattle.san_text.specs.declared.expr.Begin.TheVariants as begin
+use Rattle.san_lex.specs.Lexer.{Word, Number, Name, Fixed}
+use Rattle.san_text.specs.declared.expression.Begin.{Begin}
+use Rattle.san_text.specs.declared.expression.Begin.TheVariants as begin
 use Rattle.san_text.specs.Words.{Goes, By, Ends, Index, look, at_level, turns_of, is_next, tail, has_arrays}
-use Rattle.san_text.specs.Reading.{Illegal, ◌>>=◌}
+use Rattle.san_text.specs.Steps.{Illegal, ◌>>=◌}
 use Rattle.san_text.specs.Expressions.{Reader, room, closing, turned, more, chain, levels, indexed, grouped, begun, beginning, unary, expr}
 use Rattle.san_text.specs.declared.syntax.Ast.TheOpen.{Ast-F}
 use Rattle.san_text.specs.declared.syntax.Ast.TheFolds.{fold-roll-Ast}

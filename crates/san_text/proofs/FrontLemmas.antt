@@ -1,17 +1,16 @@
 -- What the tests of the front say of the words, and the parts of a reading that did not fail.
-use Rattle.std.proofs.Common.{◌≡◌, ℕ, zero, suc, Bool, true, false, cond, ◌&&◌, eq-eqb, List, [], ◌∷◌, ◌++◌, Result, Ok, Err, Some, None, refl, sym, ap, ◌∙◌}
-use Rattle.std.proofs.lemmas.Bool.{eqb-true}
-use Rattle.std.specs.Prelude.{nat_eq, slice_index_or}
+use Rattle.std.proofs.Common.{◌≡◌, ℕ, zero, suc, Bool, true, false, cond, ◌&&◌, List, [], ◌∷◌, ◌++◌, Result, Ok, Err, Some, None, refl, ap, ◌∙◌}
+use Rattle.std.specs.Prelude.{nat_eq}
 use Rattle.san_base.specs.declared.op.Op.{Op}
 use Rattle.san_base.specs.declared.op.Op.TheVariants as op
 use Rattle.san_lex.specs.declared.sign.Sign.{Sign}
 use Rattle.san_lex.specs.declared.sign.Sign.TheVariants as sign
 use Rattle.san_lex.specs.declared.sign.Mark.TheVariants as mark
-use Rattle.san_lex.specs.Lexing.{Word, Number, Name, Fixed}
-use Rattle.san_lex.specs.declared.sign.Keyword.TheVariants as keyword
-use Rattle.san_text.specs.declared.expr.Begin.TheVariants as begin
-use Rattle.san_text.specs.Words.{Goes, By, Ends, Index, look, at_level, level_of, is_next, sign_code, tail}
-use Rattle.san_text.specs.Reading.{Fault, ◌>>=◌}
+use Rattle.san_lex.specs.Lexer.{Word, Number, Name, Fixed}
+use Rattle.san_text.specs.declared.expression.Begin.TheVariants as begin
+use Rattle.san_text.specs.Words.{Goes, By, Ends, Index, look, at_level, level_of, is_next, tail}
+use Rattle.san_text.proofs.SignLemmas.{sign_is, sign_self}
+use Rattle.san_text.specs.Steps.{Fault, ◌>>=◌}
 use Rattle.san_text.specs.Expressions.{room, beginning}
 
 -- the value of a step that did not fail
@@ -35,77 +34,12 @@ unfolding room
 room_again zero j ws vs e = absurd cc
 room_again (suc k) j ws vs e = e
 
-table : List Sign
-table = sign.Not ∷ sign.Keyword keyword.San ∷ sign.Keyword keyword.Atomic ∷ sign.Keyword keyword.Place ∷ sign.Keyword keyword.Timed ∷ sign.Keyword keyword.Instant ∷ sign.Keyword keyword.In ∷ sign.Keyword keyword.Gate ∷ sign.Keyword keyword.Do ∷ sign.Keyword keyword.Delay ∷ sign.Keyword keyword.Det ∷ sign.Keyword keyword.Uniform ∷ sign.Keyword keyword.Geom ∷ sign.Keyword keyword.Table ∷ sign.Keyword keyword.React ∷ sign.Keyword keyword.Case ∷ sign.Keyword keyword.Out ∷ sign.Keyword keyword.If ∷ sign.Keyword keyword.Else ∷ sign.Keyword keyword.Join ∷ sign.Keyword keyword.Child ∷ sign.Keyword keyword.Share ∷ sign.Keyword keyword.Rep ∷ sign.Keyword keyword.Times ∷ sign.Keyword keyword.System ∷ sign.Keyword keyword.Reward ∷ sign.Keyword keyword.On ∷ sign.Keyword keyword.Over ∷ sign.Keyword keyword.Mean ∷ sign.Keyword keyword.At ∷ sign.Keyword keyword.Rate ∷ sign.Keyword keyword.Impulse ∷ sign.Mark mark.OpenBrace ∷ sign.Mark mark.CloseBrace ∷ sign.Mark mark.OpenParen ∷ sign.Mark mark.CloseParen ∷ sign.Mark mark.OpenBracket ∷ sign.Mark mark.CloseBracket ∷ sign.Mark mark.Semicolon ∷ sign.Mark mark.Comma ∷ sign.Mark mark.Dot ∷ sign.Mark mark.Colon ∷ sign.Mark mark.Equals ∷ sign.Operator op.Or ∷ sign.Operator op.And ∷ sign.Operator op.Eq ∷ sign.Operator op.Ne ∷ sign.Operator op.Lt ∷ sign.Operator op.Le ∷ sign.Operator op.Gt ∷ sign.Operator op.Ge ∷ sign.Operator op.Add ∷ sign.Operator op.Sub ∷ sign.Operator op.Mul ∷ sign.Operator op.Div ∷ sign.Operator op.Rem ∷ []
-
-decode : ℕ → Sign
-decode n = slice_index_or table n sign.Not
-
-decode_code : (s : Sign) → decode (sign_code s) ≡ s
-unfolding decode table
-decode_code (sign.Keyword keyword.San) = refl
-decode_code (sign.Keyword keyword.Atomic) = refl
-decode_code (sign.Keyword keyword.Place) = refl
-decode_code (sign.Keyword keyword.Timed) = refl
-decode_code (sign.Keyword keyword.Instant) = refl
-decode_code (sign.Keyword keyword.In) = refl
-decode_code (sign.Keyword keyword.Gate) = refl
-decode_code (sign.Keyword keyword.Do) = refl
-decode_code (sign.Keyword keyword.Delay) = refl
-decode_code (sign.Keyword keyword.Det) = refl
-decode_code (sign.Keyword keyword.Uniform) = refl
-decode_code (sign.Keyword keyword.Geom) = refl
-decode_code (sign.Keyword keyword.Table) = refl
-decode_code (sign.Keyword keyword.React) = refl
-decode_code (sign.Keyword keyword.Case) = refl
-decode_code (sign.Keyword keyword.Out) = refl
-decode_code (sign.Keyword keyword.If) = refl
-decode_code (sign.Keyword keyword.Else) = refl
-decode_code (sign.Keyword keyword.Join) = refl
-decode_code (sign.Keyword keyword.Child) = refl
-decode_code (sign.Keyword keyword.Share) = refl
-decode_code (sign.Keyword keyword.Rep) = refl
-decode_code (sign.Keyword keyword.Times) = refl
-decode_code (sign.Keyword keyword.System) = refl
-decode_code (sign.Keyword keyword.Reward) = refl
-decode_code (sign.Keyword keyword.On) = refl
-decode_code (sign.Keyword keyword.Over) = refl
-decode_code (sign.Keyword keyword.Mean) = refl
-decode_code (sign.Keyword keyword.At) = refl
-decode_code (sign.Keyword keyword.Rate) = refl
-decode_code (sign.Keyword keyword.Impulse) = refl
-decode_code (sign.Mark mark.OpenBrace) = refl
-decode_code (sign.Mark mark.CloseBrace) = refl
-decode_code (sign.Mark mark.OpenParen) = refl
-decode_code (sign.Mark mark.CloseParen) = refl
-decode_code (sign.Mark mark.OpenBracket) = refl
-decode_code (sign.Mark mark.CloseBracket) = refl
-decode_code (sign.Mark mark.Semicolon) = refl
-decode_code (sign.Mark mark.Comma) = refl
-decode_code (sign.Mark mark.Dot) = refl
-decode_code (sign.Mark mark.Colon) = refl
-decode_code (sign.Mark mark.Equals) = refl
-decode_code (sign.Operator op.Or) = refl
-decode_code (sign.Operator op.And) = refl
-decode_code (sign.Operator op.Eq) = refl
-decode_code (sign.Operator op.Ne) = refl
-decode_code (sign.Operator op.Lt) = refl
-decode_code (sign.Operator op.Le) = refl
-decode_code (sign.Operator op.Gt) = refl
-decode_code (sign.Operator op.Ge) = refl
-decode_code (sign.Operator op.Add) = refl
-decode_code (sign.Operator op.Sub) = refl
-decode_code (sign.Operator op.Mul) = refl
-decode_code (sign.Operator op.Div) = refl
-decode_code (sign.Operator op.Rem) = refl
-decode_code sign.Not = refl
-
 pub next_is : (s : Sign) (ws : List Word) → is_next s ws ≡ true → ws ≡ Fixed s ∷ tail ws
 unfolding is_next
 next_is s [] e = absurd cc
 next_is s (Number n ∷ ws) e = absurd cc
 next_is s (Name n ∷ ws) e = absurd cc
-next_is s (Fixed t ∷ ws) e = ap (λ (u : Sign). Fixed u ∷ ws) (sym (decode_code t) ∙ ap decode (eqb-true (sign_code t) (sign_code s) e) ∙ decode_code s)
+next_is s (Fixed t ∷ ws) e = ap (λ (u : Sign). Fixed u ∷ ws) (sign_is t s e)
 
 pub look_by : (ws : List Word) (o : Op) → look ws ≡ By o → ws ≡ Fixed (sign.Operator o) ∷ tail ws
 unfolding look
@@ -147,7 +81,7 @@ look_front (u ∷ us) vs ws e = refl
 
 pub next_self : (s : Sign) (ws : List Word) → is_next s (Fixed s ∷ ws) ≡ true
 unfolding is_next
-next_self s ws = eq-eqb (sign_code s) (sign_code s) refl
+next_self s ws = sign_self s
 
 -- ---- how an operand beginning
 

@@ -1,6 +1,7 @@
 pub mod ManyLemmas
 pub mod LoopLemmas
 pub mod SpotLemmas
+pub mod SignLemmas
 pub mod FrontLemmas
 pub mod ExprLemmas
 pub mod AlikeLemmas
@@ -15,8 +16,8 @@ pub mod ModelLemmas
 pub mod RewardLemmas
 pub mod SyntaxLemmas
 pub mod CountLemmas
-pub mod SameLemmas
 pub mod LocalLemmas
 pub mod LocalExprLemmas
 pub mod LocalGrammarLemmas
+pub mod LocalModelLemmas
 pub mod RefusedLemmas

@@ -1,9 +1,9 @@
 -- Readers look no further than the first word that isn't legal.
 use Rattle.std.proofs.Common.{◌≡◌, ℕ, zero, suc, ◌+◌, ◌<◌, ◌≤◌, Bool, true, false, cond, ◌&&◌, List, [], ◌∷◌, ◌++◌, length, Result, Ok, Err, Option, Some, None, refl, sym, ap, ◌∙◌, arith, ◌⊎◌, inl, inr}
 use Rattle.san_lex.specs.declared.sign.Sign.{Sign}
-use Rattle.san_lex.specs.Lexing.{Word, Number, Name, Fixed}
+use Rattle.san_lex.specs.Lexer.{Word, Number, Name, Fixed}
 use Rattle.san_text.specs.Words.{is_next, tail, name_of, number_of}
-use Rattle.san_text.specs.Reading.{Fault, Illegal, Deep, Long, Version, Reads, ◌>>=◌, sign_at, name_at, number_at, number_or_none, legal, optional, many, all_of, gathered}
+use Rattle.san_text.specs.Steps.{Fault, Illegal, Deep, Long, Version, Reads, ◌>>=◌, sign_at, name_at, number_at, number_or_none, legal, optional, many, all_of, gathered}
 use Rattle.san_text.specs.Faults.{left_of, with_left}
 use Rattle.san_text.proofs.FrontLemmas.{bind_ok, ok_is, next_is}
 use Rattle.san_text.proofs.StepLemmas.{seq, sign_then, done, choice, maybe, guarded, signed}

@@ -1,10 +1,10 @@
 -- An item that is not read ends the loop with its fault.
 use Rattle.std.proofs.Common.{◌≡◌, ℕ, ◌<◌, Bool, true, List, Result}
-use Rattle.san_lex.specs.Lexing.{Word}
+use Rattle.san_lex.specs.Lexer.{Word}
 use Rattle.san_text.specs.declared.words.ReadError.{ReadError}
 use Rattle.san_text.specs.declared.words.ReadError.TheVariants as error
-use Rattle.san_text.specs.Reading.{Fault, Illegal, Long, Deep, Version, Reads, many, gathered}
-use Rattle.san_text.specs.Answers.{Fails}
+use Rattle.san_text.specs.Steps.{Fault, Illegal, Long, Deep, Version, Reads, many, gathered}
+use Rattle.san_text.specs.inner.Answers.{Fails}
 use Rattle.san_text.proofs.ManyLemmas.{turn_fails}
 
 pub loop_fails : {A : Type 0} (e : ReadError) (starts : List Word → Bool) (item : Reads A) (front : List A) (turns : ℕ) (ws : List Word) (total : Result (List A × List Word) Fault)

@@ -1,8 +1,8 @@
 -- Items one after another, as a loop reads them.
 use Rattle.std.proofs.Common.{◌≡◌, ℕ, zero, suc, ◌-◌, ◌<◌, Bool, true, false, cond, List, [], ◌∷◌, ◌++◌, Result, Ok, Err, refl, sym, ap, ◌∙◌, append_assoc, arith, ◌⊎◌, inl, inr}
 use Rattle.std.proofs.lemmas.List.{append-nil}
-use Rattle.san_lex.specs.Lexing.{Word}
-use Rattle.san_text.specs.Reading.{Fault, Reads, ◌>>=◌, many, gathered}
+use Rattle.san_lex.specs.Lexer.{Word}
+use Rattle.san_text.specs.Steps.{Fault, Reads, ◌>>=◌, many, gathered}
 
 pub gathered_none : {A : Type 0} (r : Result (List A × List Word) Fault) → gathered [] r ≡ r
 gathered_none (Ok y) = refl

@@ -3,7 +3,7 @@ use Rattle.std.proofs.Common.{◌≡◌, ℕ, true, false, List, [], ◌∷◌, 
 use Rattle.san_lex.specs.declared.sign.Keyword.TheVariants as keyword
 use Rattle.san_lex.specs.declared.sign.Mark.TheVariants as mark
 use Rattle.san_lex.specs.declared.sign.Sign.TheVariants as sign
-use Rattle.san_lex.specs.Lexing.{Word, Number, Name, Fixed}
+use Rattle.san_lex.specs.Lexer.{Word, Number, Name, Fixed}
 use Rattle.san_text.specs.declared.syntax.Timing.{Timing}
 use Rattle.san_text.specs.declared.syntax.ActDecl.{ActDecl}
 use Rattle.san_text.specs.declared.syntax.ModelDecl.{ModelDecl}
@@ -11,7 +11,7 @@ use Rattle.san_text.specs.declared.syntax.ModelDecl.TheVariants as model
 use Rattle.san_text.specs.declared.syntax.ChildDecl.{ChildDecl}
 use Rattle.san_text.specs.declared.syntax.ShareDecl.{ShareDecl}
 use Rattle.san_text.specs.Words.{is_next}
-use Rattle.san_text.specs.Reading.{next_keyword}
+use Rattle.san_text.specs.Steps.{next_keyword}
 use Rattle.san_text.specs.Activities.{starts_act}
 use Rattle.san_text.specs.Models.{atomic_at, child_at, part_at, more_part, parts_at, share_at, join_at, shown_at, copied_at, times_at, rep_at, model_at, starts_model}
 use Rattle.san_text.specs.ActivityWords.{act_by, act_words, with_commas}

@@ -3,10 +3,10 @@ use Rattle.std.proofs.Common.{◌≡◌, ℕ, Bool, true, false, ◌&&◌, List,
 use Rattle.san_lex.specs.declared.sign.Keyword.TheVariants as keyword
 use Rattle.san_lex.specs.declared.sign.Mark.TheVariants as mark
 use Rattle.san_lex.specs.declared.sign.Sign.TheVariants as sign
-use Rattle.san_lex.specs.Lexing.{Word, Fixed}
+use Rattle.san_lex.specs.Lexer.{Word, Fixed}
 use Rattle.san_text.specs.declared.syntax.PlaceDecl.{PlaceDecl}
 use Rattle.san_text.specs.Words.{is_next, tail, has_arrays}
-use Rattle.san_text.specs.Reading.{next_mark, next_keyword}
+use Rattle.san_text.specs.Steps.{next_mark, next_keyword}
 use Rattle.san_text.specs.Activities.{length_at, initial_at, place_at}
 use Rattle.san_text.specs.ActivityWords.{length_words, initial_words, place_words}
 use Rattle.san_text.proofs.FrontLemmas.{next_is, next_self, and_false, both_true}

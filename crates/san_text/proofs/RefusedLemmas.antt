@@ -6,20 +6,20 @@ use Rattle.std.specs.Prelude.{nat_eq}
 use Rattle.san_lex.specs.declared.sign.Keyword.TheVariants as keyword
 use Rattle.san_lex.specs.declared.sign.Mark.TheVariants as mark
 use Rattle.san_lex.specs.declared.sign.Sign.TheVariants as sign
-use Rattle.san_lex.specs.Lexing.{Word, Placed, tokens, word_of}
+use Rattle.san_lex.specs.Lexer.{Word, Located, tokens, word_of}
 use Rattle.san_text.specs.declared.syntax.Syntax.{Syntax}
 use Rattle.san_text.specs.declared.syntax.ModelDecl.{ModelDecl}
 use Rattle.san_text.specs.declared.syntax.RewardDecl.{RewardDecl}
 use Rattle.san_text.specs.declared.text.Refusal.{Refusal}
-use Rattle.san_text.specs.Reading.{Fault, Illegal, Deep, Long, Version, Reads, ◌>>=◌, sign_at, name_at, all_of, next_keyword}
+use Rattle.san_text.specs.Steps.{Fault, Illegal, Deep, Long, Version, Reads, ◌>>=◌, sign_at, name_at, all_of, next_keyword}
 use Rattle.san_text.specs.Models.{model_at, starts_model, reward_at, head_at, system_at, ended, syntax_at}
-use Rattle.san_text.specs.Texts.{start_or, place_of, refused, read_refusal, parsed_words, parsed_tokens, parsed}
+use Rattle.san_text.specs.Texts.{start_or, offset_of, refused, read_refusal, parsed_words, parsed_tokens, parsed}
 use Rattle.san_text.specs.Faults.{left_of, with_left, code_of}
 use Rattle.san_text.proofs.StepLemmas.{seq, sign_then, done}
 use Rattle.san_text.proofs.LocalLemmas.{Local, first_local, cond_local, illegal_local, done_local, seq_local, sign_local, name_local, all_local}
-use Rattle.san_text.proofs.LocalGrammarLemmas.{models_listed, rewards_listed, head_local}
+use Rattle.san_text.proofs.LocalModelLemmas.{models_listed, rewards_listed, head_local}
 
--- ---- the whole text without the place of the system's name
+-- ---- the whole text without the offset of the system's name
 
 system_name : Reads (List ℕ)
 system_name = sign_then (sign.Keyword keyword.System) (seq name_at (λ n. sign_then (sign.Mark mark.Semicolon) (done n)))
@@ -128,26 +128,26 @@ refused_too us w rest other f e left =
 
 -- ---- the same of texts
 
-words_of_both : (ps : List Placed) (p : Placed) (qs : List Placed) → map word_of (ps ++ p ∷ qs) ≡ map word_of ps ++ p.word ∷ map word_of qs
+words_of_both : (ps : List Located) (p : Located) (qs : List Located) → map word_of (ps ++ p ∷ qs) ≡ map word_of ps ++ p.word ∷ map word_of qs
 words_of_both [] p qs = refl
 words_of_both (x ∷ ps) p qs = ap (λ (ws : List Word). x.word ∷ ws) (words_of_both ps p qs)
 
-drop_front : (ps qs : List Placed) (n : ℕ) → n ≡ length ps → drop n (ps ++ qs) ≡ qs
+drop_front : (ps qs : List Located) (n : ℕ) → n ≡ length ps → drop n (ps ++ qs) ≡ qs
 drop_front [] qs n e = ap (λ (k : ℕ). drop k qs) e
 drop_front (p ∷ ps) qs zero e = absurd (omega (arith, e))
 drop_front (p ∷ ps) qs (suc n) e = drop_front ps qs n (omega (arith, e))
 
-place_is : (text : List ℕ) (ps : List Placed) (p : Placed) (qs : List Placed) → place_of text (ps ++ p ∷ qs) (suc (length qs)) ≡ p.start
-unfolding place_of
-place_is text ps p qs = ap (start_or (length text)) (drop_front ps (p ∷ qs) (length (ps ++ p ∷ qs) - suc (length qs)) (omega (arith, length-append ps (p ∷ qs))))
+offset_is : (text : List ℕ) (ps : List Located) (p : Located) (qs : List Located) → offset_of text (ps ++ p ∷ qs) (suc (length qs)) ≡ p.start
+unfolding offset_of
+offset_is text ps p qs = ap (start_or (length text)) (drop_front ps (p ∷ qs) (length (ps ++ p ∷ qs) - suc (length qs)) (omega (arith, length-append ps (p ∷ qs))))
 
-refusal_is : (text : List ℕ) (ps : List Placed) (f : Fault) (n : ℕ) → read_refusal text ps (with_left f n) ≡ refused (code_of f) text (place_of text ps n)
+refusal_is : (text : List ℕ) (ps : List Located) (f : Fault) (n : ℕ) → read_refusal text ps (with_left f n) ≡ refused (code_of f) text (offset_of text ps n)
 refusal_is text ps (Illegal m) n = refl
 refusal_is text ps (Deep m) n = refl
 refusal_is text ps (Long m) n = refl
 refusal_is text ps (Version m) n = refl
 
-pub text_refused_too : (other : List ℕ) (ps qs : List Placed) (p q : Placed) (rest more : List Placed) (f : Fault) → syntax_at (map word_of (ps ++ p ∷ rest)) ≡ Err f → left_of f ≡ suc (length rest)
+pub text_refused_too : (other : List ℕ) (ps qs : List Located) (p q : Located) (rest more : List Located) (f : Fault) → syntax_at (map word_of (ps ++ p ∷ rest)) ≡ Err f → left_of f ≡ suc (length rest)
     → tokens other ≡ Ok (qs ++ q ∷ more) → map word_of qs ≡ map word_of ps → q.word ≡ p.word → parsed other ≡ Err (refused (code_of f) other q.start)
 unfolding parsed
 text_refused_too other ps qs p q rest more f e left lexed fronts last =
@@ -157,4 +157,4 @@ text_refused_too other ps qs p q rest more f e left lexed fronts last =
     let read : syntax_at (map word_of (qs ++ q ∷ more)) ≡ Err (with_left f (suc (length more))) =
     ap syntax_at same ∙ refused_too (map word_of ps) p.word (map word_of rest) (map word_of more) f was is ∙ ap (λ (n : ℕ). Err (with_left f (suc n))) (length-map more word_of) in
     ap (parsed_tokens other) lexed ∙ ap (parsed_words other (qs ++ q ∷ more)) read
-    ∙ ap (λ (r : Refusal). Err r) (refusal_is other (qs ++ q ∷ more) f (suc (length more)) ∙ ap (refused (code_of f) other) (place_is other qs q more))
+    ∙ ap (λ (r : Refusal). Err r) (refusal_is other (qs ++ q ∷ more) f (suc (length more)) ∙ ap (refused (code_of f) other) (offset_is other qs q more))

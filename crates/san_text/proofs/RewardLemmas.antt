@@ -3,14 +3,14 @@ use Rattle.std.proofs.Common.{◌≡◌, ℕ, true, false, List, [], ◌∷◌, 
 use Rattle.san_lex.specs.declared.sign.Keyword.TheVariants as keyword
 use Rattle.san_lex.specs.declared.sign.Mark.TheVariants as mark
 use Rattle.san_lex.specs.declared.sign.Sign.TheVariants as sign
-use Rattle.san_lex.specs.Lexing.{Word, Number, Name, Fixed}
+use Rattle.san_lex.specs.Lexer.{Word, Number, Name, Fixed}
 use Rattle.san_text.specs.declared.syntax.RewardDecl.{RewardDecl}
 use Rattle.san_text.specs.declared.syntax.SpanDecl.{SpanDecl}
 use Rattle.san_text.specs.declared.syntax.SpanDecl.TheVariants as span
 use Rattle.san_text.specs.declared.syntax.TermDecl.{TermDecl}
 use Rattle.san_text.specs.declared.syntax.TermDecl.TheVariants as term
 use Rattle.san_text.specs.Words.{look, is_next}
-use Rattle.san_text.specs.Reading.{next_keyword}
+use Rattle.san_text.specs.Steps.{next_keyword}
 use Rattle.san_text.specs.Models.{bounds_at, over_at, mean_at, tick_at, span_at, rate_at, impulse_at, term_at, starts_term, measured_at, reward_at}
 use Rattle.san_text.specs.ModelWords.{span_words, term_words, reward_words}
 use Rattle.san_text.proofs.StepLemmas.{seq, sign_then, done, choice, Any, Law, law_of, sign_step, seq_step, seq_through, done_step, choice_step}

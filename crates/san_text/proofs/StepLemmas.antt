@@ -2,9 +2,9 @@
 -- spelling, which is read again.
 use Rattle.std.proofs.Common.{◌≡◌, Bool, true, false, cond, ◌&&◌, List, [], ◌∷◌, ◌++◌, length, Ok, Err, Option, None, refl, sym, ap, subst, ◌∙◌, append_assoc}
 use Rattle.san_lex.specs.declared.sign.Sign.{Sign}
-use Rattle.san_lex.specs.Lexing.{Word, Fixed}
+use Rattle.san_lex.specs.Lexer.{Word, Fixed}
 use Rattle.san_text.specs.Words.{is_next, tail}
-use Rattle.san_text.specs.Reading.{Illegal, Reads, ◌>>=◌, sign_at}
+use Rattle.san_text.specs.Steps.{Illegal, Reads, ◌>>=◌, sign_at}
 use Rattle.san_text.proofs.FrontLemmas.{bind_ok, ok_is, test_ok, then_ok, next_is, next_self}
 use Rattle.san_text.proofs.AlikeLemmas.{Alike, alike_refl, alike_is, alike_then, alike_front, alike_parts}
 

@@ -4,7 +4,7 @@ use denote.Hole.Carrier
 use Rattle.san_lex.specs.declared.sign.Keyword.TheVariants as keyword
 use Rattle.san_lex.specs.declared.sign.Mark.TheVariants as mark
 use Rattle.san_lex.specs.declared.sign.Sign.TheVariants as sign
-use Rattle.san_lex.specs.Lexing.{Word, Number, Name, Fixed}
+use Rattle.san_lex.specs.Lexer.{Word, Number, Name, Fixed}
 use Rattle.san_text.specs.declared.syntax.Ast.{Ast}
 use Rattle.san_text.specs.declared.syntax.StmtDecl.{StmtDecl}
 use Rattle.san_text.specs.declared.syntax.StmtDecl.TheViews as stmt
@@ -12,7 +12,7 @@ use Rattle.san_text.specs.declared.syntax.StmtDecl.TheVariants as plain
 use Rattle.san_text.specs.declared.syntax.StmtDecl.TheOpen.{StmtDecl-F}
 use Rattle.san_text.specs.declared.syntax.StmtDecl.TheFolds.{fold-roll-StmtDecl}
 use Rattle.san_text.specs.Words.{look, is_next, tail, name_of, has_arrays}
-use Rattle.san_text.specs.Reading.{Illegal, Deep, Fault, ◌>>=◌, sign_at}
+use Rattle.san_text.specs.Steps.{Illegal, Deep, Fault, ◌>>=◌, sign_at}
 use Rattle.san_text.specs.Expressions.{expr}
 use Rattle.san_text.specs.Statements.{Body, set_cell, set_plain, set_at, otherwise, if_at, stmt_by, stmt_at, starts_stmt, inner, block}
 use Rattle.san_text.specs.Spelling.{spelling, else_words, stmt_step, stmt_words, stmts_words, body_words}

@@ -6,12 +6,12 @@ use Rattle.std.specs.Prelude.{nat_le, nat_eq}
 use Rattle.san_lex.specs.declared.sign.Keyword.TheVariants as keyword
 use Rattle.san_lex.specs.declared.sign.Mark.TheVariants as mark
 use Rattle.san_lex.specs.declared.sign.Sign.TheVariants as sign
-use Rattle.san_lex.specs.Lexing.{Word, Number, Name, Fixed}
+use Rattle.san_lex.specs.Lexer.{Word, Number, Name, Fixed}
 use Rattle.san_text.specs.declared.syntax.Syntax.{Syntax}
 use Rattle.san_text.specs.declared.syntax.ModelDecl.{ModelDecl}
 use Rattle.san_text.specs.declared.syntax.RewardDecl.{RewardDecl}
 use Rattle.san_text.specs.Words.{is_next, name_of}
-use Rattle.san_text.specs.Reading.{Fault, Illegal, Version, ◌>>=◌, sign_at, name_at, number_at, all_of, next_keyword}
+use Rattle.san_text.specs.Steps.{Fault, Illegal, Version, ◌>>=◌, sign_at, name_at, number_at, all_of, next_keyword}
 use Rattle.san_text.specs.Models.{model_at, starts_model, reward_at, version_at, head_at, system_at, ended, syntax_at}
 use Rattle.san_text.specs.ModelWords.{model_words, reward_words, head_words, system_words, syntax_words}
 use Rattle.san_text.proofs.FrontLemmas.{bind_ok, ok_is, then_ok, test_ok}

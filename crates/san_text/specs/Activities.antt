@@ -2,7 +2,7 @@
 use Rattle.std.specs.Prelude.{ℕ, Bool, false, cond, ◌&&◌, ◌||◌, bytes_eq, codes, List, [], ◌∷◌, Ok, Option, Some, None}
 use Rattle.san_lex.specs.declared.sign.Keyword.TheVariants as keyword
 use Rattle.san_lex.specs.declared.sign.Mark.TheVariants as mark
-use Rattle.san_lex.specs.Lexing.{Word}
+use Rattle.san_lex.specs.Lexer.{Word}
 use Rattle.san_text.specs.declared.syntax.Ast.{Ast}
 use Rattle.san_text.specs.declared.syntax.StmtDecl.{StmtDecl}
 use Rattle.san_text.specs.declared.syntax.PlaceDecl.{PlaceDecl}
@@ -17,8 +17,9 @@ use Rattle.san_text.specs.declared.syntax.Cases.TheVariants as cases
 use Rattle.san_text.specs.declared.syntax.CaseDecl.{CaseDecl}
 use Rattle.san_text.specs.declared.syntax.DistDecl.{DistDecl}
 use Rattle.san_text.specs.declared.syntax.DistDecl.TheVariants as dist
+use Rattle.san_text.specs.declared.limits.TheConstants.{ACTIVITY_BRACES, CASE_BRACES}
 use Rattle.san_text.specs.Words.{tail, name_of, has_arrays, has_priorities}
-use Rattle.san_text.specs.Reading.{Reads, ◌>>=◌, name_at, number_at, mark_at, keyword_at, next_mark, next_keyword, all_of, gathered, number_or_none}
+use Rattle.san_text.specs.Steps.{Reads, ◌>>=◌, name_at, number_at, mark_at, keyword_at, next_mark, next_keyword, all_of, gathered, number_or_none}
 use Rattle.san_text.specs.Expressions.{expr}
 use Rattle.san_text.specs.Statements.{block}
 
@@ -40,7 +41,7 @@ arc_at ws = name_at ws >>= λ n. number_or_none n.1 >>= λ w. mark_at mark.Semic
 
 -- ";" | "do" block
 unfoldable pub function_at : ℕ → Reads (List StmtDecl)
-function_at version ws = cond (next_mark mark.Semicolon ws) (Ok ([], tail ws)) (keyword_at keyword.Do ws >>= λ d. block version 14 d)
+function_at version ws = cond (next_mark mark.Semicolon ws) (Ok ([], tail ws)) (keyword_at keyword.Do ws >>= λ d. block version ACTIVITY_BRACES d)
 
 -- input: "in" NAME [ INT ] ";" | "gate" expr ( ";" | "do" block )
 unfoldable pub input_arc : Reads InputDecl
@@ -70,14 +71,14 @@ starts_output ws = next_keyword keyword.Out ws || next_keyword keyword.Do ws
 
 -- case: "case" expr "{" { output } "}"
 unfoldable pub case_at : ℕ → Reads CaseDecl
-case_at version ws = keyword_at keyword.Case ws >>= λ c. expr version c >>= λ e. mark_at mark.OpenBrace e.1 >>= λ b. all_of starts_output (output_at version 13) b >>= λ o. mark_at mark.CloseBrace o.1 >>= λ r. Ok (record { weight = e.0; outputs = o.0 }, r)
+case_at version ws = keyword_at keyword.Case ws >>= λ c. expr version c >>= λ e. mark_at mark.OpenBrace e.1 >>= λ b. all_of starts_output (output_at version CASE_BRACES) b >>= λ o. mark_at mark.CloseBrace o.1 >>= λ r. Ok (record { weight = e.0; outputs = o.0 }, r)
 
 -- cases: case { case } | { output }
 unfoldable pub weighted_at : ℕ → Reads Cases
 weighted_at version ws = all_of (next_keyword keyword.Case) (case_at version) ws >>= λ c. Ok (cases.Weighted c.0, c.1)
 
 unfoldable pub plain_at : ℕ → Reads Cases
-plain_at version ws = all_of starts_output (output_at version 14) ws >>= λ o. Ok (cases.Plain o.0, o.1)
+plain_at version ws = all_of starts_output (output_at version ACTIVITY_BRACES) ws >>= λ o. Ok (cases.Plain o.0, o.1)
 
 unfoldable pub cases_at : ℕ → Reads Cases
 cases_at version ws = cond (next_keyword keyword.Case ws) (weighted_at version ws) (plain_at version ws)

@@ -6,14 +6,15 @@ use Rattle.san_lex.specs.declared.sign.Mark.{Mark}
 use Rattle.san_lex.specs.declared.sign.Mark.TheVariants as mark
 use Rattle.san_lex.specs.declared.sign.Sign.{Sign}
 use Rattle.san_lex.specs.declared.sign.Sign.TheVariants as sign
-use Rattle.san_lex.specs.Lexing.{Word, Number, Name, Fixed}
+use Rattle.san_lex.specs.Lexer.{Word, Number, Name, Fixed}
 use Rattle.san_text.specs.declared.syntax.Ast.{Ast}
 use Rattle.san_text.specs.declared.syntax.Ast.TheViews as ast
 use Rattle.san_text.specs.declared.syntax.Ast.TheVariants as leaf
-use Rattle.san_text.specs.declared.expr.Begin.{Begin}
-use Rattle.san_text.specs.declared.expr.Begin.TheVariants as begin
+use Rattle.san_text.specs.declared.expression.Begin.{Begin}
+use Rattle.san_text.specs.declared.expression.Begin.TheVariants as begin
+use Rattle.san_text.specs.declared.limits.TheConstants.{LOOSEST_LEVEL, EXPRESSION_DEPTH, MAX_EXPRESSION_WORDS}
 use Rattle.san_text.specs.Words.{Goes, By, Ends, Index, look, at_level, turns_of, is_next, tail, has_arrays}
-use Rattle.san_text.specs.Reading.{Fault, Illegal, Long, Reads, ◌>>=◌}
+use Rattle.san_text.specs.Steps.{Fault, Illegal, Long, Reads, ◌>>=◌}
 
 -- what was read inside an expression, how many words it may still take, and the words after it
 abbrev pub Part : Type 0 → Type 0
@@ -93,8 +94,8 @@ begun arrays begin.Opens go whole k ws = room k ws >>= λ j. grouped whole j (ta
 -- unary, inside so many signs and brackets at most
 unfoldable pub unary : ℕ → ℕ → Reader
 unary version zero k ws = Err (Long (length ws))
-unary version (suc n) k ws = begun (has_arrays version) (beginning ws) (unary version n) (levels 5 (unary version n)) k ws
+unary version (suc n) k ws = begun (has_arrays version) (beginning ws) (unary version n) (levels LOOSEST_LEVEL (unary version n)) k ws
 
--- expr, of at most 128 words; each sign and bracket takes one, so a depth of 129 is never used up
+-- expr; each sign and bracket takes a word, so its depth is never used up
 unfoldable pub expr : ℕ → Reads Ast
-expr version ws = levels 5 (unary version 129) 128 ws >>= λ x. Ok (x.0, x.2)
+expr version ws = levels LOOSEST_LEVEL (unary version EXPRESSION_DEPTH) MAX_EXPRESSION_WORDS ws >>= λ x. Ok (x.0, x.2)

@@ -1,6 +1,7 @@
 -- Where a fault stands: how many words are left at it.
 use Rattle.std.specs.Prelude.{ℕ}
-use Rattle.san_text.specs.Reading.{Fault, Illegal, Deep, Long, Version}
+use Rattle.san_text.specs.declared.codes.TheConstants.{ILLEGAL_TOKEN, TOO_MANY_BRACES, EXPRESSION_TOO_LONG, UNKNOWN_VERSION}
+use Rattle.san_text.specs.Steps.{Fault, Illegal, Deep, Long, Version}
 
 abbrev pub left_of : Fault → ℕ
 left_of (Illegal n) = n
@@ -15,9 +16,9 @@ with_left (Deep m) n = Deep n
 with_left (Long m) n = Long n
 with_left (Version m) n = Version n
 
--- E06 to E09
+-- the code of a fault
 abbrev pub code_of : Fault → ℕ
-code_of (Illegal n) = 6
-code_of (Deep n) = 7
-code_of (Long n) = 8
-code_of (Version n) = 9
+code_of (Illegal n) = ILLEGAL_TOKEN
+code_of (Deep n) = TOO_MANY_BRACES
+code_of (Long n) = EXPRESSION_TOO_LONG
+code_of (Version n) = UNKNOWN_VERSION

@@ -1,7 +1,6 @@
 pub mod Words
-pub mod Reading
+pub mod Steps
 pub mod Expressions
-pub mod Answers
 pub mod Statements
 pub mod Activities
 pub mod Models
@@ -10,3 +9,4 @@ pub mod Faults
 pub mod Spelling
 pub mod ActivityWords
 pub mod ModelWords
+pub mod inner

@@ -3,7 +3,7 @@ use Rattle.std.specs.Prelude.{ℕ, List, [], ◌∷◌, ◌++◌, map}
 use Rattle.san_lex.specs.declared.sign.Keyword.TheVariants as keyword
 use Rattle.san_lex.specs.declared.sign.Mark.TheVariants as mark
 use Rattle.san_lex.specs.declared.sign.Sign.TheVariants as sign
-use Rattle.san_lex.specs.Lexing.{Word, Number, Name, Fixed}
+use Rattle.san_lex.specs.Lexer.{Word, Number, Name, Fixed}
 use Rattle.san_text.specs.declared.syntax.Syntax.{Syntax}
 use Rattle.san_text.specs.declared.syntax.PlaceDecl.{PlaceDecl}
 use Rattle.san_text.specs.declared.syntax.ActDecl.{ActDecl}

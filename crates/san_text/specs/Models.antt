@@ -2,7 +2,7 @@
 use Rattle.std.specs.Prelude.{ℕ, Bool, cond, ◌&&◌, ◌||◌, nat_eq, nat_le, List, [], ◌∷◌, length, Result, Ok, Err}
 use Rattle.san_lex.specs.declared.sign.Keyword.TheVariants as keyword
 use Rattle.san_lex.specs.declared.sign.Mark.TheVariants as mark
-use Rattle.san_lex.specs.Lexing.{Word}
+use Rattle.san_lex.specs.Lexer.{Word}
 use Rattle.san_text.specs.declared.syntax.Syntax.{Syntax}
 use Rattle.san_text.specs.declared.syntax.ModelDecl.{ModelDecl}
 use Rattle.san_text.specs.declared.syntax.ModelDecl.TheVariants as model
@@ -13,8 +13,9 @@ use Rattle.san_text.specs.declared.syntax.SpanDecl.{SpanDecl}
 use Rattle.san_text.specs.declared.syntax.SpanDecl.TheVariants as span
 use Rattle.san_text.specs.declared.syntax.TermDecl.{TermDecl}
 use Rattle.san_text.specs.declared.syntax.TermDecl.TheVariants as term
+use Rattle.san_text.specs.declared.limits.TheConstants.{FIRST_VERSION, LAST_VERSION}
 use Rattle.san_text.specs.Words.{tail}
-use Rattle.san_text.specs.Reading.{Fault, Illegal, Version, Reads, ◌>>=◌, name_at, number_at, mark_at, keyword_at, next_mark, next_keyword, all_of, gathered}
+use Rattle.san_text.specs.Steps.{Fault, Illegal, Version, Reads, ◌>>=◌, name_at, number_at, mark_at, keyword_at, next_mark, next_keyword, all_of, gathered}
 use Rattle.san_text.specs.Expressions.{expr}
 use Rattle.san_text.specs.Activities.{place_at, act_at, starts_act}
 
@@ -110,7 +111,7 @@ reward_at version ws = measured_at ws >>= λ n. span_at n.1 >>= λ s. mark_at ma
 
 -- the number of a version
 unfoldable pub version_at : Reads ℕ
-version_at ws = number_at ws >>= λ v. cond (nat_le 1 v.0 && nat_le v.0 3) (Ok v) (Err (Version (length ws)))
+version_at ws = number_at ws >>= λ v. cond (nat_le FIRST_VERSION v.0 && nat_le v.0 LAST_VERSION) (Ok v) (Err (Version (length ws)))
 
 -- "san" INT ";"
 unfoldable pub head_at : Reads ℕ

@@ -3,12 +3,12 @@ use Rattle.std.specs.Prelude.{ℕ, zero, suc, Bool, true, false, cond, ◌&&◌,
 use Rattle.san_lex.specs.declared.sign.Keyword.TheVariants as keyword
 use Rattle.san_lex.specs.declared.sign.Mark.TheVariants as mark
 use Rattle.san_lex.specs.declared.sign.Sign.TheVariants as sign
-use Rattle.san_lex.specs.Lexing.{Word}
+use Rattle.san_lex.specs.Lexer.{Word}
 use Rattle.san_text.specs.declared.syntax.StmtDecl.{StmtDecl}
 use Rattle.san_text.specs.declared.syntax.StmtDecl.TheViews as stmt
 use Rattle.san_text.specs.declared.syntax.StmtDecl.TheVariants as plain
 use Rattle.san_text.specs.Words.{is_next, tail, name_of, has_arrays}
-use Rattle.san_text.specs.Reading.{Illegal, Deep, Reads, ◌>>=◌, sign_at, many}
+use Rattle.san_text.specs.Steps.{Illegal, Deep, Reads, ◌>>=◌, sign_at, many}
 use Rattle.san_text.specs.Expressions.{expr}
 
 -- "[" expr "]" "=" expr ";"

@@ -4,8 +4,9 @@ use Rattle.san_lex.specs.declared.sign.Keyword.{Keyword}
 use Rattle.san_lex.specs.declared.sign.Keyword.TheVariants as keyword
 use Rattle.san_lex.specs.declared.sign.Sign.{Sign}
 use Rattle.san_lex.specs.declared.sign.Sign.TheVariants as sign
-use Rattle.san_lex.specs.Lexing.{Word, Number, Name, Fixed, Placed, tokens, word_of}
-use Rattle.san_lex.specs.Lexing as lexing
+use Rattle.san_lex.specs.Lexer.{Word, Number, Name, Fixed, Located, tokens, word_of}
+use Rattle.san_lex.specs.Lexer as lexer
+use Rattle.san_text.specs.declared.codes.TheConstants.{BAD_BYTE, NUMBER_TOO_LARGE, NAME_TOO_LONG, ILLEGAL_TOKEN, TOO_MANY_BRACES, EXPRESSION_TOO_LONG, UNKNOWN_VERSION}
 use Rattle.san_text.specs.declared.syntax.Syntax.{Syntax}
 use Rattle.san_text.specs.declared.text.Refusal.{Refusal}
 use Rattle.san_text.specs.declared.text.Parsed.{Parsed}
@@ -13,7 +14,7 @@ use Rattle.san_text.specs.declared.text.Before.{Before}
 use Rattle.san_text.specs.declared.text.Before.TheVariants as before
 use Rattle.san_text.specs.declared.text.ParseFault.{ParseFault}
 use Rattle.san_text.specs.declared.text.ParseFault.TheVariants as error
-use Rattle.san_text.specs.Reading.{Fault, Illegal, Deep, Long, Version}
+use Rattle.san_text.specs.Steps.{Fault, Illegal, Deep, Long, Version}
 use Rattle.san_text.specs.Models.{syntax_at}
 use Rattle.san_text.specs.ModelWords.{syntax_words}
 
@@ -23,21 +24,21 @@ spot_after line column [] = (line, column)
 spot_after line column (b ∷ bs) = cond (nat_eq b 10) (spot_after (suc line) 1 bs) (spot_after line (suc column) bs)
 
 unfoldable pub spot_of : List ℕ → ℕ → ℕ × ℕ
-spot_of text place = spot_after 1 1 (take place text)
+spot_of text offset = spot_after 1 1 (take offset text)
 
 abbrev pub refusal : ℕ → ℕ × ℕ → Refusal
 refusal code spot = record { code = code; line = spot.0; column = spot.1 }
 
 unfoldable pub refused : ℕ → List ℕ → ℕ → Refusal
-refused code text place = refusal code (spot_of text place)
+refused code text offset = refusal code (spot_of text offset)
 
-abbrev pub start_or : ℕ → List Placed → ℕ
+abbrev pub start_or : ℕ → List Located → ℕ
 start_or end [] = end
 start_or end (p ∷ ps) = p.start
 
--- the place of the token at which so many are left, or the end of the text
-unfoldable pub place_of : List ℕ → List Placed → ℕ → ℕ
-place_of text ps left = start_or (length text) (drop (length ps - left) ps)
+-- the offset of the token at which so many are left, or the end of the text
+unfoldable pub offset_of : List ℕ → List Located → ℕ → ℕ
+offset_of text ps left = start_or (length text) (drop (length ps - left) ps)
 
 abbrev pub after_keyword : Keyword → Before
 after_keyword keyword.Instant = before.Instant
@@ -67,12 +68,12 @@ is_counted b (Number n) = true
 is_counted b (Name s) = is_counted_name b
 is_counted b (Fixed s) = false
 
--- the places of the words that count
-abbrev pub spots_after : Before → List Placed → List ℕ
+-- the offsets of the words that count
+abbrev pub spots_after : Before → List Located → List ℕ
 spots_after b [] = []
 spots_after b (p ∷ ps) = cond (is_counted b p.word) (p.start ∷ spots_after (after_word b p.word) ps) (spots_after (after_word b p.word) ps)
 
-unfoldable pub spots_of : List Placed → List ℕ
+unfoldable pub spots_of : List Located → List ℕ
 spots_of ps = spots_after before.Other ps
 
 -- the words that count
@@ -88,38 +89,36 @@ unfoldable pub words_of : Syntax → List Word
 words_of s = words_that_count (syntax_words s)
 
 -- the tokens of these words
-abbrev pub counting_after : Before → List Placed → List Placed
+abbrev pub counting_after : Before → List Located → List Located
 counting_after b [] = []
 counting_after b (p ∷ ps) = cond (is_counted b p.word) (p ∷ counting_after (after_word b p.word) ps) (counting_after (after_word b p.word) ps)
 
-unfoldable pub counting : List Placed → List Placed
+unfoldable pub counting : List Located → List Located
 counting ps = counting_after before.Other ps
 
-abbrev pub start_of : Placed → ℕ
+abbrev pub start_of : Located → ℕ
 start_of p = p.start
 
--- E03 to E05
-abbrev pub lex_refusal : List ℕ → lexing.Fault → Refusal
-lex_refusal text (lexing.Bad at) = refused 3 text at
-lex_refusal text (lexing.Large at) = refused 4 text at
-lex_refusal text (lexing.Long at) = refused 5 text at
+abbrev pub lex_refusal : List ℕ → lexer.Fault → Refusal
+lex_refusal text (lexer.Bad at) = refused BAD_BYTE text at
+lex_refusal text (lexer.Large at) = refused NUMBER_TOO_LARGE text at
+lex_refusal text (lexer.Long at) = refused NAME_TOO_LONG text at
 
--- E06 to E09
-abbrev pub read_refusal : List ℕ → List Placed → Fault → Refusal
-read_refusal text ps (Illegal left) = refused 6 text (place_of text ps left)
-read_refusal text ps (Deep left) = refused 7 text (place_of text ps left)
-read_refusal text ps (Long left) = refused 8 text (place_of text ps left)
-read_refusal text ps (Version left) = refused 9 text (place_of text ps left)
+abbrev pub read_refusal : List ℕ → List Located → Fault → Refusal
+read_refusal text ps (Illegal left) = refused ILLEGAL_TOKEN text (offset_of text ps left)
+read_refusal text ps (Deep left) = refused TOO_MANY_BRACES text (offset_of text ps left)
+read_refusal text ps (Long left) = refused EXPRESSION_TOO_LONG text (offset_of text ps left)
+read_refusal text ps (Version left) = refused UNKNOWN_VERSION text (offset_of text ps left)
 
-abbrev pub parsed_words : List ℕ → List Placed → Result (Syntax × ℕ) Fault → Result Parsed Refusal
-parsed_words text ps (Ok x) = Ok (record { syntax = x.0; spots = spots_of ps; system = place_of text ps x.1 })
+abbrev pub parsed_words : List ℕ → List Located → Result (Syntax × ℕ) Fault → Result Parsed Refusal
+parsed_words text ps (Ok x) = Ok (record { syntax = x.0; spots = spots_of ps; system = offset_of text ps x.1 })
 parsed_words text ps (Err f) = Err (read_refusal text ps f)
 
-abbrev pub parsed_tokens : List ℕ → Result (List Placed) lexing.Fault → Result Parsed Refusal
+abbrev pub parsed_tokens : List ℕ → Result (List Located) lexer.Fault → Result Parsed Refusal
 parsed_tokens text (Ok ps) = parsed_words text ps (syntax_at (map word_of ps))
 parsed_tokens text (Err f) = Err (lex_refusal text f)
 
--- the syntax of a text with its places, or its refusal
+-- the syntax of a text with its offsets, or its refusal
 unfoldable pub parsed : List ℕ → Result Parsed Refusal
 parsed text = parsed_tokens text (tokens text)
 

@@ -1,13 +1,14 @@
+//! The grammar of delays, with their activation and reactivation predicates.
+
 ghost use Rattle.std.specs.Prelude.{◌≡◌};
 ghost use Rattle.san_lex.specs.declared.sign.Mark.TheVariants.{Comma as CommaMark};
-ghost use Rattle.san_text.specs.Reading.{next_mark, next_keyword};
+ghost use Rattle.san_text.specs.Steps.{next_mark, next_keyword};
 ghost use Rattle.san_text.specs.Activities.{entry_at, more_entry, entries_at, det_at, uniform_at, geom_at, table_at, dist_at, react_at, pair_at, timing_at};
-ghost use Rattle.san_text.specs.Answers.{Gives};
+ghost use Rattle.san_text.specs.inner.Answers.{Gives};
 
-use crate::expr::expr;
-use crate::reading::{
-    Item, Read, keyword_at, mark_at, next_keyword, next_mark, number_at, one_and,
-};
+use crate::expression::expr;
+use crate::limits::ACTIVITY_BRACES;
+use crate::steps::{Item, Read, keyword_at, mark_at, next_keyword, next_mark, number_at, one_and};
 use crate::syntax::{Ast, DistDecl, Timing};
 use crate::words::{ReadError, Words};
 use san_base::Items;
@@ -56,7 +57,7 @@ fn entries_at<'a>(alloc: Global, version: u64, words: Words<'a>) -> Read<'a, Ite
     ensures { Gives result (entries_at words.entry) }
 {
     let (first, words) = entry_at(words)?;
-    one_and(alloc, version, 14, first, words)
+    one_and(alloc, version, ACTIVITY_BRACES, first, words)
 }
 
 #[tactic(auto, unfolding(crate::specs::Activities::det_at))]
@@ -134,7 +135,7 @@ fn pair_at<'a>(alloc: Global, version: u64, words: Words<'a>) -> Read<'a, Option
 }
 
 #[tactic(auto, unfolding(crate::specs::Activities::timing_at))]
-pub fn timing_at<'a>(alloc: Global, version: u64, words: Words<'a>) -> Read<'a, Timing>
+pub(crate) fn timing_at<'a>(alloc: Global, version: u64, words: Words<'a>) -> Read<'a, Timing>
     ensures { Gives result (timing_at version words.entry) }
 {
     let words = keyword_at(Keyword::Delay, words)?;

@@ -1,12 +1,15 @@
+//! The grammar of input arcs and input gates.
+
 ghost use Rattle.std.specs.Prelude.{◌≡◌};
 ghost use Rattle.san_text.specs.Activities.{arc_at, function_at, input_arc, gate_at, input_at, starts_input};
-ghost use Rattle.san_text.specs.Answers.{Gives};
+ghost use Rattle.san_text.specs.inner.Answers.{Gives};
 
-use crate::expr::expr;
-use crate::reading::{
+use crate::expression::expr;
+use crate::limits::ACTIVITY_BRACES;
+use crate::statement::block;
+use crate::steps::{
     Item, Read, keyword_at, mark_at, name_at, next_keyword, next_mark, number_or_none,
 };
-use crate::stmt::block;
 use crate::syntax::{InputDecl, StmtDecl};
 use crate::words::{ReadError, Words};
 use san_base::{Items, Name};
@@ -14,7 +17,7 @@ use san_lex::{Keyword, Mark};
 use std::alloc::Global;
 
 #[tactic(auto, unfolding(crate::specs::Activities::arc_at))]
-pub fn arc_at<'a>(alloc: Global, words: Words<'a>) -> Read<'a, (Name, Option<u64>)>
+pub(crate) fn arc_at<'a>(alloc: Global, words: Words<'a>) -> Read<'a, (Name, Option<u64>)>
     ensures { Gives result (arc_at words.entry) }
 {
     let (name, words) = name_at(alloc, words)?;
@@ -31,7 +34,7 @@ fn function_at<'a>(alloc: Global, version: u64, words: Words<'a>) -> Read<'a, It
         Ok((Items::new(alloc), words.tail()))
     } else {
         let words = keyword_at(Keyword::Do, words)?;
-        block(alloc, version, words, 14)
+        block(alloc, version, words, ACTIVITY_BRACES)
     }
 }
 

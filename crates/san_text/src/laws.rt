@@ -1,6 +1,8 @@
+//! Laws of the grammar: what is spelled is read again, and a text is refused at its first fault.
+
 ghost use Rattle.std.specs.Prelude.{◌≡◌, ◌++◌, ℕ, suc, false, List, ◌∷◌, Ok, Err, map, length};
 ghost use Rattle.san_lex.specs.declared.sign.Keyword.TheVariants.{Else};
-ghost use Rattle.san_lex.specs.Lexing.{Word, Placed, tokens, word_of};
+ghost use Rattle.san_lex.specs.Lexer.{Word, Located, tokens, word_of};
 ghost use Rattle.san_lex.specs.Words.{said};
 ghost use Rattle.san_text.specs.declared.syntax.Ast.{Ast};
 ghost use Rattle.san_text.specs.declared.syntax.StmtDecl.{StmtDecl};
@@ -10,7 +12,7 @@ ghost use Rattle.san_text.specs.declared.syntax.RewardDecl.{RewardDecl};
 ghost use Rattle.san_text.specs.declared.syntax.Syntax.{Syntax};
 ghost use Rattle.san_text.specs.declared.text.Parsed.{Parsed};
 ghost use Rattle.san_text.specs.Words.{look};
-ghost use Rattle.san_text.specs.Reading.{Fault, next_keyword};
+ghost use Rattle.san_text.specs.Steps.{Fault, next_keyword};
 ghost use Rattle.san_text.specs.Expressions.{expr};
 ghost use Rattle.san_text.specs.Statements.{block, stmt_at};
 ghost use Rattle.san_text.specs.Activities.{act_at};
@@ -98,9 +100,9 @@ pub fn syntax_is_read_again()
 /// A law, which does nothing when it runs: the spots of a text are the places of the words of its
 /// syntax, one for each and in their order.
 pub fn spots_are_those_of_the_words()
-    ensures spots { (text : List ℕ) (found : List Placed) (x : Parsed) → tokens text ≡ Ok found
+    ensures spots { (text : List ℕ) (found : List Located) (x : Parsed) → tokens text ≡ Ok found
         → parsed text ≡ Ok x → x.spots ≡ map start_of (counting found) }
-    ensures words { (text : List ℕ) (found : List Placed) (x : Parsed) → tokens text ≡ Ok found
+    ensures words { (text : List ℕ) (found : List Located) (x : Parsed) → tokens text ≡ Ok found
         → parsed text ≡ Ok x → words_of x.syntax ≡ map word_of (counting found) }
     ensures length { (text : List ℕ) (x : Parsed) → parsed text ≡ Ok x
         → length x.spots ≡ length (words_of x.syntax) }
@@ -112,7 +114,7 @@ pub fn agreeing_texts_are_refused_there_too()
     ensures words { (us : List Word) (w : Word) (rest more : List Word) (f : Fault)
         → syntax_at (us ++ w ∷ rest) ≡ Err f → left_of f ≡ suc (length rest)
         → syntax_at (us ++ w ∷ more) ≡ Err (with_left f (suc (length more))) }
-    ensures texts { (other : List ℕ) (ps qs : List Placed) (p q : Placed) (rest more : List Placed)
+    ensures texts { (other : List ℕ) (ps qs : List Located) (p q : Located) (rest more : List Located)
         (f : Fault) → syntax_at (map word_of (ps ++ p ∷ rest)) ≡ Err f
         → left_of f ≡ suc (length rest) → tokens other ≡ Ok (qs ++ q ∷ more)
         → map word_of qs ≡ map word_of ps → q.word ≡ p.word

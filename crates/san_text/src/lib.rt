@@ -1,18 +1,19 @@
 //! Reads model texts: what a text parses to, or its first fault.
 #![tactic(auto)]
 
-mod act;
+mod activity;
+mod codes;
 mod delay;
-mod expr;
+mod expression;
 mod input;
 mod laws;
+mod limits;
 mod model;
 mod output;
 mod place;
-mod reading;
 mod reward;
-mod same;
-mod stmt;
+mod statement;
+mod steps;
 mod syntax;
 mod text;
 mod whole;
@@ -23,7 +24,6 @@ pub use laws::{
     expression_is_read_again, model_is_read_again, reward_is_read_again,
     spots_are_those_of_the_words, statement_is_read_again, syntax_is_read_again,
 };
-pub use same::Same;
 pub use san_base::Op;
 pub use syntax::{
     ActDecl, Ast, CaseDecl, Cases, ChildDecl, DistDecl, InputDecl, ModelDecl, OutputDecl,

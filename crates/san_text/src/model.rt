@@ -1,11 +1,14 @@
+//! The grammar of atomics, joins and replicates.
+
 ghost use Rattle.std.specs.Prelude.{◌≡◌};
 ghost use Rattle.san_lex.specs.declared.sign.Keyword.TheVariants.{Child as ChildKey, Share as ShareKey};
 ghost use Rattle.san_lex.specs.declared.sign.Mark.TheVariants.{Comma as CommaMark};
-ghost use Rattle.san_text.specs.Reading.{next_mark, next_keyword};
+ghost use Rattle.san_text.specs.Steps.{next_mark, next_keyword};
 ghost use Rattle.san_text.specs.Models.{atomic_at, child_at, part_at, more_part, parts_at, share_at, join_at, shown_at, copied_at, times_at, rep_at, model_at, starts_model};
-ghost use Rattle.san_text.specs.Answers.{Gives};
+ghost use Rattle.san_text.specs.inner.Answers.{Gives};
 
-use crate::reading::{
+use crate::limits::ACTIVITY_BRACES;
+use crate::steps::{
     Item, Read, keyword_at, many, mark_at, name_at, next_keyword, next_mark, number_at, one_and,
 };
 use crate::syntax::{ChildDecl, ModelDecl, ShareDecl};
@@ -20,8 +23,8 @@ fn atomic_at<'a>(alloc: Global, version: u64, words: Words<'a>) -> Read<'a, Mode
 {
     let (name, words) = name_at(alloc, words)?;
     let words = mark_at(Mark::OpenBrace, words)?;
-    let (places, words) = many(alloc, version, 14, words)?;
-    let (acts, words) = many(alloc, version, 14, words)?;
+    let (places, words) = many(alloc, version, ACTIVITY_BRACES, words)?;
+    let (acts, words) = many(alloc, version, ACTIVITY_BRACES, words)?;
     let words = mark_at(Mark::CloseBrace, words)?;
     Ok((ModelDecl::Atomic { name, places, acts }, words))
 }
@@ -99,7 +102,7 @@ fn parts_at<'a>(alloc: Global, version: u64, words: Words<'a>) -> Read<'a, Items
     ensures { Gives result (parts_at words.entry) }
 {
     let (first, words) = part_at(alloc, words)?;
-    one_and(alloc, version, 14, first, words)
+    one_and(alloc, version, ACTIVITY_BRACES, first, words)
 }
 
 #[tactic(auto, unfolding(crate::specs::Models::share_at))]
@@ -139,8 +142,8 @@ fn join_at<'a>(alloc: Global, version: u64, words: Words<'a>) -> Read<'a, ModelD
 {
     let (name, words) = name_at(alloc, words)?;
     let words = mark_at(Mark::OpenBrace, words)?;
-    let (children, words) = many(alloc, version, 14, words)?;
-    let (shares, words) = many(alloc, version, 14, words)?;
+    let (children, words) = many(alloc, version, ACTIVITY_BRACES, words)?;
+    let (shares, words) = many(alloc, version, ACTIVITY_BRACES, words)?;
     let words = mark_at(Mark::CloseBrace, words)?;
     Ok((
         ModelDecl::Join {
@@ -208,7 +211,7 @@ fn rep_at<'a>(alloc: Global, version: u64, words: Words<'a>) -> Read<'a, ModelDe
     let ((name, of), words) = copied_at(alloc, words)?;
     let (times, words) = times_at(words)?;
     let words = mark_at(Mark::OpenBrace, words)?;
-    let (shares, words) = many(alloc, version, 14, words)?;
+    let (shares, words) = many(alloc, version, ACTIVITY_BRACES, words)?;
     let words = mark_at(Mark::CloseBrace, words)?;
     Ok((
         ModelDecl::Rep {

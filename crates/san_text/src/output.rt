@@ -1,13 +1,16 @@
+//! The grammar of output arcs, output gates and cases.
+
 ghost use Rattle.std.specs.Prelude.{◌≡◌};
 ghost use Rattle.san_lex.specs.declared.sign.Keyword.TheVariants.{Case as CaseKey};
-ghost use Rattle.san_text.specs.Reading.{next_keyword};
+ghost use Rattle.san_text.specs.Steps.{next_keyword};
 ghost use Rattle.san_text.specs.Activities.{output_arc, body_at, output_at, starts_output, case_at, weighted_at, plain_at, cases_at};
-ghost use Rattle.san_text.specs.Answers.{Gives};
+ghost use Rattle.san_text.specs.inner.Answers.{Gives};
 
-use crate::expr::expr;
+use crate::expression::expr;
 use crate::input::arc_at;
-use crate::reading::{Item, Read, keyword_at, many, mark_at, next_keyword};
-use crate::stmt::block;
+use crate::limits::{ACTIVITY_BRACES, CASE_BRACES};
+use crate::statement::block;
+use crate::steps::{Item, Read, keyword_at, many, mark_at, next_keyword};
 use crate::syntax::{CaseDecl, Cases, OutputDecl};
 use crate::words::{ReadError, Words};
 use san_lex::{Keyword, Mark};
@@ -74,7 +77,7 @@ fn case_at<'a>(alloc: Global, version: u64, words: Words<'a>) -> Read<'a, CaseDe
     let words = keyword_at(Keyword::Case, words)?;
     let (weight, words) = expr(alloc, version, words)?;
     let words = mark_at(Mark::OpenBrace, words)?;
-    let (outputs, words) = many(alloc, version, 13, words)?;
+    let (outputs, words) = many(alloc, version, CASE_BRACES, words)?;
     let words = mark_at(Mark::CloseBrace, words)?;
     Ok((CaseDecl { weight, outputs }, words))
 }
@@ -102,7 +105,7 @@ impl Item for CaseDecl {
 fn weighted_at<'a>(alloc: Global, version: u64, words: Words<'a>) -> Read<'a, Cases>
     ensures { Gives result (weighted_at version words.entry) }
 {
-    let (cases, words) = many(alloc, version, 14, words)?;
+    let (cases, words) = many(alloc, version, ACTIVITY_BRACES, words)?;
     Ok((Cases::Weighted(cases), words))
 }
 
@@ -110,12 +113,12 @@ fn weighted_at<'a>(alloc: Global, version: u64, words: Words<'a>) -> Read<'a, Ca
 fn plain_at<'a>(alloc: Global, version: u64, words: Words<'a>) -> Read<'a, Cases>
     ensures { Gives result (plain_at version words.entry) }
 {
-    let (outputs, words) = many(alloc, version, 14, words)?;
+    let (outputs, words) = many(alloc, version, ACTIVITY_BRACES, words)?;
     Ok((Cases::Plain(outputs), words))
 }
 
 #[tactic(auto, unfolding(crate::specs::Activities::cases_at))]
-pub fn cases_at<'a>(alloc: Global, version: u64, words: Words<'a>) -> Read<'a, Cases>
+pub(crate) fn cases_at<'a>(alloc: Global, version: u64, words: Words<'a>) -> Read<'a, Cases>
     ensures { Gives result (cases_at version words.entry) }
 {
     if next_keyword(&words, Keyword::Case) {

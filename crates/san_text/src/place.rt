@@ -1,13 +1,13 @@
+//! The grammar of places.
+
 ghost use Rattle.std.specs.Prelude.{◌≡◌};
 ghost use Rattle.san_lex.specs.declared.sign.Keyword.TheVariants.{Place as PlaceKey};
-ghost use Rattle.san_text.specs.Reading.{next_keyword};
+ghost use Rattle.san_text.specs.Steps.{next_keyword};
 ghost use Rattle.san_text.specs.Activities.{length_at, initial_at, place_at};
-ghost use Rattle.san_text.specs.Answers.{Gives};
+ghost use Rattle.san_text.specs.inner.Answers.{Gives};
 
-use crate::expr::has_arrays;
-use crate::reading::{
-    Item, Read, keyword_at, mark_at, name_at, next_keyword, next_mark, number_at,
-};
+use crate::expression::has_arrays;
+use crate::steps::{Item, Read, keyword_at, mark_at, name_at, next_keyword, next_mark, number_at};
 use crate::syntax::PlaceDecl;
 use crate::words::{ReadError, Words};
 use san_lex::{Keyword, Mark};

@@ -1,11 +1,14 @@
+//! The grammar of rewards.
+
 ghost use Rattle.std.specs.Prelude.{◌≡◌};
 ghost use Rattle.san_lex.specs.declared.sign.Keyword.TheVariants.{Reward as RewardKey};
-ghost use Rattle.san_text.specs.Reading.{next_keyword};
+ghost use Rattle.san_text.specs.Steps.{next_keyword};
 ghost use Rattle.san_text.specs.Models.{bounds_at, over_at, mean_at, tick_at, span_at, rate_at, impulse_at, term_at, starts_term, measured_at, reward_at};
-ghost use Rattle.san_text.specs.Answers.{Gives};
+ghost use Rattle.san_text.specs.inner.Answers.{Gives};
 
-use crate::expr::expr;
-use crate::reading::{Item, Read, keyword_at, many, mark_at, name_at, next_keyword, number_at};
+use crate::expression::expr;
+use crate::limits::ACTIVITY_BRACES;
+use crate::steps::{Item, Read, keyword_at, many, mark_at, name_at, next_keyword, number_at};
 use crate::syntax::{RewardDecl, SpanDecl, TermDecl};
 use crate::words::{ReadError, Words};
 use san_base::Name;
@@ -134,7 +137,7 @@ fn reward_at<'a>(alloc: Global, version: u64, words: Words<'a>) -> Read<'a, Rewa
     let ((name, atomic), words) = measured_at(alloc, words)?;
     let (span, words) = span_at(words)?;
     let words = mark_at(Mark::OpenBrace, words)?;
-    let (terms, words) = many(alloc, version, 14, words)?;
+    let (terms, words) = many(alloc, version, ACTIVITY_BRACES, words)?;
     let words = mark_at(Mark::CloseBrace, words)?;
     Ok((
         RewardDecl {

@@ -1,3 +1,5 @@
+//! The syntax of a model text.
+
 use san_base::{Boxed, Items, Name, Op};
 
 /// A model text: its version, its models in order, the system's name, and its rewards.

@@ -1,10 +1,17 @@
+//! From a text to its syntax, or to the code, line and column of its first fault.
+
 ghost use Rattle.std.specs.Prelude.{◌≡◌, ◌≤◌, ℕ, List, Ok, Err, map, length, IfOk};
-ghost use Rattle.san_lex.specs.Lexing.{tokens, word_of};
-ghost use Rattle.san_lex.specs.Pieces.{placed, kind_word};
+ghost use Rattle.san_base.specs.declared.limits.TheConstants.{MAX_TEXT_BYTES};
+ghost use Rattle.san_lex.specs.Lexer.{tokens, word_of};
+ghost use Rattle.san_lex.specs.Pieces.{located, kind_word};
 ghost use Rattle.san_text.specs.declared.text.ParseFault.TheVariants.{Refused};
-ghost use Rattle.san_text.specs.Texts.{spot_of, spot_after, refused, place_of, after_word, is_counted, spots_of, words_of, parsed, parsed_words, Parses};
+ghost use Rattle.san_text.specs.Texts.{spot_of, spot_after, refused, offset_of, after_word, is_counted, spots_of, words_of, parsed, parsed_words, Parses};
 ghost use Rattle.san_text.specs.Models.{syntax_at};
 
+use crate::codes::{
+    BAD_BYTE, EXPRESSION_TOO_LONG, ILLEGAL_TOKEN, NAME_TOO_LONG, NUMBER_TOO_LARGE, TOO_MANY_BRACES,
+    UNKNOWN_VERSION,
+};
 use crate::syntax::Syntax;
 use crate::whole::syntax_at;
 use crate::words::{ReadError, Words};
@@ -22,8 +29,8 @@ pub struct Refusal {
     pub column: u32,
 }
 
-/// What a text parses to. `spots` has the place of each of its names and numbers in order, and
-/// `system` is the place of the system's name; a place is a number of bytes from the start.
+/// What a text parses to. `spots` has the offset of each of its names and numbers in order, and
+/// `system` is the offset of the system's name. An offset is in bytes from the start.
 #[derive(Debug, Drop)]
 pub struct Parsed {
     pub syntax: Syntax,
@@ -33,26 +40,26 @@ pub struct Parsed {
 
 #[derive(Clone, Copy, Debug, PartialEq, Eq, Error)]
 pub enum ParseFault {
-    /// The codes are those of the tokens and the grammar, E03 to E09.
+    /// A code of the tokens or the grammar, at the first fault.
     #[error("Refused")]
     Refused(Refusal),
     #[error("NoMemory")]
     NoMemory,
 }
 
-/// The line and column of a place, each from 1.
+/// The line and column of an offset, each from 1.
 #[tactic(auto, unfolding(crate::specs::Texts::spot_of))]
-pub fn spot(text: &[u8], place: u32) -> (u32, u32)
-    requires { length text.now ≤ 67108864 }
-    ensures { result ≡ spot_of text.now place }
+pub fn spot(text: &[u8], offset: u32) -> (u32, u32)
+    requires { length text.now ≤ MAX_TEXT_BYTES }
+    ensures { result ≡ spot_of text.now offset }
 {
-    let place = (place as usize).min(text.len());
-    spot_behind(&text[..place])
+    let offset = (offset as usize).min(text.len());
+    spot_behind(&text[..offset])
 }
 
 /// The line and column behind these bytes.
 fn spot_behind(bytes: &[u8]) -> (u32, u32)
-    requires { length bytes.now ≤ 67108864 }
+    requires { length bytes.now ≤ MAX_TEXT_BYTES }
     ensures { result ≡ spot_after 1 1 bytes.now }
 {
     let mut line = 1;
@@ -69,19 +76,19 @@ fn spot_behind(bytes: &[u8]) -> (u32, u32)
 }
 
 #[tactic(auto, unfolding(crate::specs::Texts::refused))]
-fn refused(code: u32, text: &[u8], place: u32) -> Refusal
-    requires { length text.now ≤ 67108864 }
-    ensures { result ≡ refused code text.now place }
+fn refused(code: u32, text: &[u8], offset: u32) -> Refusal
+    requires { length text.now ≤ MAX_TEXT_BYTES }
+    ensures { result ≡ refused code text.now offset }
 {
-    let (line, column) = spot(text, place);
+    let (line, column) = spot(text, offset);
     Refusal { code, line, column }
 }
 
-/// The place of the token at which so many are left, or the end of the text.
-#[tactic(auto, using(crate::proofs::SpotLemmas::place_at, crate::proofs::SpotLemmas::place_end))]
-fn place_of(text: &[u8], tokens: &[Token], left: usize) -> u32
-    requires { length text.now ≤ 67108864 }
-    ensures { result ≡ place_of text.now (map (placed text.now) tokens.now) left }
+/// The offset of the token at which so many are left, or the end of the text.
+#[tactic(auto, using(crate::proofs::SpotLemmas::offset_at, crate::proofs::SpotLemmas::offset_end))]
+fn offset_of(text: &[u8], tokens: &[Token], left: usize) -> u32
+    requires { length text.now ≤ MAX_TEXT_BYTES }
+    ensures { result ≡ offset_of text.now (map (located text.now) tokens.now) left }
 {
     let at = tokens.len().saturating_sub(left);
     if at < tokens.len() {
@@ -134,10 +141,10 @@ fn is_counted(before: Before, kind: Kind) -> bool
     }
 }
 
-/// The places of the names and numbers that count.
+/// The offsets of the names and numbers that count.
 #[tactic(auto, unfolding(crate::specs::Texts::spots_of))]
 fn spots_of(alloc: Global, text: &[u8], tokens: &[Token]) -> Result<Items<u32>, NoMemory>
-    ensures { IfOk result (λ s. s ≡ spots_of (map (placed text.now) tokens.now)) }
+    ensures { IfOk result (λ s. s ≡ spots_of (map (located text.now) tokens.now)) }
 {
     let mut found = Vec::new(alloc);
     let mut before = Before::Other;
@@ -153,49 +160,49 @@ fn spots_of(alloc: Global, text: &[u8], tokens: &[Token]) -> Result<Items<u32>, 
 /// What the tokens of a text parse to.
 #[tactic(auto, using(crate::proofs::SpotLemmas::words_are, crate::proofs::SpotLemmas::words_fit))]
 fn parse_tokens(alloc: Global, text: &[u8], found: &[Token]) -> Result<Parsed, ParseFault>
-    requires size { length text.now ≤ 67108864 }
-    requires found { tokens text.now ≡ Ok (map (placed text.now) found.now) }
-    ensures { Parses result (parsed_words text.now (map (placed text.now) found.now) (syntax_at
-        (map word_of (map (placed text.now) found.now)))) }
+    requires size { length text.now ≤ MAX_TEXT_BYTES }
+    requires found { tokens text.now ≡ Ok (map (located text.now) found.now) }
+    ensures { Parses result (parsed_words text.now (map (located text.now) found.now) (syntax_at
+        (map word_of (map (located text.now) found.now)))) }
 {
     match syntax_at(alloc, Words::new(text, found)) {
         Ok((syntax, left)) => match spots_of(alloc, text, found) {
             Ok(spots) => Ok(Parsed {
                 syntax,
                 spots,
-                system: place_of(text, found, left),
+                system: offset_of(text, found, left),
             }),
             Err(_) => Err(ParseFault::NoMemory),
         },
         Err(ReadError::Memory) => Err(ParseFault::NoMemory),
-        Err(ReadError::Illegal(left)) => Err(refuse(6, text, found, left)),
-        Err(ReadError::Deep(left)) => Err(refuse(7, text, found, left)),
-        Err(ReadError::Long(left)) => Err(refuse(8, text, found, left)),
-        Err(ReadError::Version(left)) => Err(refuse(9, text, found, left)),
+        Err(ReadError::Illegal(left)) => Err(refuse(ILLEGAL_TOKEN, text, found, left)),
+        Err(ReadError::Deep(left)) => Err(refuse(TOO_MANY_BRACES, text, found, left)),
+        Err(ReadError::Long(left)) => Err(refuse(EXPRESSION_TOO_LONG, text, found, left)),
+        Err(ReadError::Version(left)) => Err(refuse(UNKNOWN_VERSION, text, found, left)),
     }
 }
 
 fn refuse(code: u32, text: &[u8], tokens: &[Token], left: usize) -> ParseFault
-    requires { length text.now ≤ 67108864 }
-    ensures { result ≡ Refused (refused code text.now (place_of text.now (map (placed text.now)
+    requires { length text.now ≤ MAX_TEXT_BYTES }
+    ensures { result ≡ Refused (refused code text.now (offset_of text.now (map (located text.now)
         tokens.now) left)) }
 {
-    ParseFault::Refused(refused(code, text, place_of(text, tokens, left)))
+    ParseFault::Refused(refused(code, text, offset_of(text, tokens, left)))
 }
 
 /// What a text parses to. A text that isn't in the grammar is refused at its first fault: tokens
 /// first, and then the first word that isn't legal.
 #[tactic(auto, unfolding(crate::specs::Texts::parsed), using(crate::proofs::CountLemmas::spots_hold))]
 pub fn parse(alloc: Global, text: &[u8]) -> Result<Parsed, ParseFault>
-    requires { length text.now ≤ 67108864 }
+    requires { length text.now ≤ MAX_TEXT_BYTES }
     ensures gives { Parses result (parsed text.now) }
     ensures words { IfOk result (λ x. length x.spots ≡ length (words_of x.syntax)) }
 {
     match tokens(alloc, text) {
         Ok(found) => parse_tokens(alloc, text, found.as_slice()),
-        Err(LexFault::Bad(place)) => Err(ParseFault::Refused(refused(3, text, place))),
-        Err(LexFault::Number(place)) => Err(ParseFault::Refused(refused(4, text, place))),
-        Err(LexFault::Name(place)) => Err(ParseFault::Refused(refused(5, text, place))),
+        Err(LexFault::Bad(at)) => Err(ParseFault::Refused(refused(BAD_BYTE, text, at))),
+        Err(LexFault::Number(at)) => Err(ParseFault::Refused(refused(NUMBER_TOO_LARGE, text, at))),
+        Err(LexFault::Name(at)) => Err(ParseFault::Refused(refused(NAME_TOO_LONG, text, at))),
         Err(LexFault::NoMemory) => Err(ParseFault::NoMemory),
     }
 }

@@ -1,8 +1,11 @@
+//! The grammar of a whole text.
+
 ghost use Rattle.std.specs.Prelude.{◌≡◌};
 ghost use Rattle.san_text.specs.Models.{version_at, head_at, system_at, ended, syntax_at};
-ghost use Rattle.san_text.specs.Answers.{Gives};
+ghost use Rattle.san_text.specs.inner.Answers.{Gives};
 
-use crate::reading::{Read, keyword_at, many, mark_at, name_at, number_at};
+use crate::limits::{ACTIVITY_BRACES, FIRST_VERSION, LAST_VERSION};
+use crate::steps::{Read, keyword_at, many, mark_at, name_at, number_at};
 use crate::syntax::Syntax;
 use crate::words::{ReadError, Words};
 use san_base::Name;
@@ -15,7 +18,7 @@ fn version_at<'a>(words: Words<'a>) -> Read<'a, u64>
 {
     let left = words.len();
     let (version, words) = number_at(words)?;
-    if 1 <= version && version <= 3 {
+    if FIRST_VERSION <= version && version <= LAST_VERSION {
         Ok((version, words))
     } else {
         Err(ReadError::Version(left))
@@ -56,13 +59,13 @@ fn ended(words: Words<'_>) -> Result<usize, ReadError>
 
 /// The syntax, and how many words are left at the system's name.
 #[tactic(auto, unfolding(crate::specs::Models::syntax_at))]
-pub fn syntax_at(alloc: Global, words: Words<'_>) -> Result<(Syntax, usize), ReadError>
+pub(crate) fn syntax_at(alloc: Global, words: Words<'_>) -> Result<(Syntax, usize), ReadError>
     ensures { Gives result (syntax_at words.entry) }
 {
     let (version, words) = head_at(words)?;
-    let (models, words) = many(alloc, version, 14, words)?;
+    let (models, words) = many(alloc, version, ACTIVITY_BRACES, words)?;
     let ((system, left), words) = system_at(alloc, words)?;
-    let (rewards, words) = many(alloc, version, 14, words)?;
+    let (rewards, words) = many(alloc, version, ACTIVITY_BRACES, words)?;
     let _end = ended(words)?;
     Ok((
         Syntax {

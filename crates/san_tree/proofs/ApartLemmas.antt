@@ -1,9 +1,10 @@
 -- Two places of one leaf have two homes.
 use Rattle.std.proofs.Common.{◌≡◌, ℕ, ◌+◌, ◌≤◌, List, [], ◌∷◌, Option, Some, None, length, refl, ap, sym, ◌∙◌, arith}
 use Rattle.san_tree.specs.declared.node.Node.{Node}
-use Rattle.san_tree.specs.Places.{Step, HomeValue, node_at, child_of, shared_as, chain, climb, home, either, SharesApart}
+use Rattle.san_tree.specs.Places.{Step, node_at, child_of, shared_as, chain, climb, home, either, SharesApart}
+use Rattle.san_tree.specs.declared.home.Home.{Home}
 
-abbrev at_depth : ℕ → ℕ → HomeValue
+abbrev at_depth : ℕ → ℕ → Home
 at_depth d p = record { depth = d; place = p }
 
 abbrev AllApart : List Step → Type 0

@@ -3,7 +3,9 @@ use Rattle.std.proofs.Common.{◌≡◌, ℕ, zero, suc, ◌+◌, ◌<◌, ◌�
 use Rattle.std.specs.Prelude.{slice_index}
 use Rattle.std.proofs.lemmas.List.{take_all}
 use Rattle.san_tree.specs.declared.node.Node.{Node}
-use Rattle.san_tree.specs.Places.{Step, HomeValue, node_at, child_of, shared_as, chain, climb, settled, home, either}
+use Rattle.san_tree.specs.Places.{Step, node_at, child_of, shared_as, chain, climb, home, either}
+use Rattle.san_tree.specs.declared.home.Home.{Home}
+use Rattle.san_tree.specs.inner.Walks.{settled}
 
 pub chain-end : (nodes : List Node) (n : ℕ) (path : List ℕ) (above : List Step) → length path < 1 → chain nodes n path above ≡ above
 chain-end nodes n [] above h = refl
@@ -18,7 +20,7 @@ pub settled-zero : (place : ℕ) (above : List Step) → settled 0 place above �
 unfolding settled
 settled-zero place above = refl
 
-abbrev at_depth : ℕ → ℕ → HomeValue
+abbrev pub at_depth : ℕ → ℕ → Home
 at_depth d p = record { depth = d; place = p }
 
 pub settled-up : (depth place : ℕ) (s : Step) (above : List Step) → 0 < depth → settled depth place (s ∷ above) ≡ settled (depth + 1) place above
@@ -39,16 +41,11 @@ unfolding settled climb
 settled-unshared zero q node c above e h = ap (either (at_depth (length above + 1) q) (λ r. climb r above)) h
 settled-unshared (suc d) q node c above e h = absurd (omega (arith, e))
 
-of_depth : (d p : ℕ) → (settled d p []).depth ≡ d
+settled-end : (d p : ℕ) → settled d p [] ≡ at_depth d p
 unfolding settled climb
-of_depth zero p = refl
-of_depth (suc d) p = omega arith
+settled-end zero p = refl
+settled-end (suc d) p = let same : 0 + suc d ≡ suc d = omega arith in ap (λ k. at_depth k p) same
 
-of_place : (d p : ℕ) → (settled d p []).place ≡ p
-unfolding settled climb
-of_place zero p = refl
-of_place (suc d) p = refl
-
-pub home-settled : (nodes : List Node) (root : ℕ) (path : List ℕ) (place d p : ℕ) → climb place (chain nodes root path []) ≡ settled d p [] → (d ≡ (home nodes root path place).depth) × (p ≡ (home nodes root path place).place)
+pub home-settled : (nodes : List Node) (root : ℕ) (path : List ℕ) (place d p : ℕ) → climb place (chain nodes root path []) ≡ settled d p [] → at_depth d p ≡ home nodes root path place
 unfolding home
-home-settled nodes root path place d p h = (sym (ap (λ v. v.depth) h ∙ of_depth d p), sym (ap (λ v. v.place) h ∙ of_place d p))
+home-settled nodes root path place d p h = sym (h ∙ settled-end d p)

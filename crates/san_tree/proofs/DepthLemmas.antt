@@ -8,6 +8,7 @@ use Rattle.std.specs.Prelude.{slice_index_or}
 use Rattle.san_tree.specs.declared.instance.Instance.{Instance}
 use Rattle.san_tree.specs.declared.node.Node.{Node}
 use Rattle.san_tree.specs.declared.node.Node.TheVariants.{Leaf, Join, Rep}
+use Rattle.san_tree.specs.declared.limits.TheConstants.{MAX_PATH}
 use Rattle.san_tree.specs.Instances.{onto, below, joined, copied, instances_of, grown, instances, IsWithin}
 
 abbrev AreWithin : ℕ → List Instance → Type 0
@@ -54,6 +55,6 @@ grown-shallow table (node ∷ nodes) h = grown-shallow (table ++ instances_of ta
 empty-shallow : IsShallow []
 empty-shallow k = subst (AreWithin k) (sym (get_or_past [] k [] (omega arith))) (All-nil (IsWithin k))
 
-pub paths-within : (nodes : List Node) (root : ℕ) (xs : List Instance) → root ≤ 255 → xs ≡ instances nodes root → All (IsWithin 255) xs
+pub paths-within : (nodes : List Node) (root : ℕ) (xs : List Instance) → root ≤ MAX_PATH → xs ≡ instances nodes root → All (IsWithin MAX_PATH) xs
 paths-within nodes root xs h e =
-    subst (All (IsWithin 255)) (sym e) (All-weaker (IsWithin root) (IsWithin 255) (λ i w. omega (arith, h, w)) (instances nodes root) (grown-shallow [] nodes empty-shallow root))
+    subst (All (IsWithin MAX_PATH)) (sym e) (All-weaker (IsWithin root) (IsWithin MAX_PATH) (λ i w. omega (arith, h, w)) (instances nodes root) (grown-shallow [] nodes empty-shallow root))

@@ -1,6 +1,6 @@
 -- Numbers of instances from numbers of the earlier nodes' instances.
-use Rattle.std.proofs.Common.{◌≡◌, ℕ, zero, suc, ◌+◌, ◌*◌, ◌<◌, ◌≤◌, List, [], ◌∷◌, ◌++◌, length, refl, ap, sym, ◌∙◌, arith, length-append, min, drop, replicate, inl, inr, ◌⊎◌, take}
-use Rattle.std.proofs.lemmas.List.{get_or-set_other, get_or_append_left, get_or_push, get_or-replicate, at_drop_more, at_drop_all, get_or_past, take_more}
+use Rattle.std.proofs.Common.{◌≡◌, ℕ, zero, suc, ◌+◌, ◌*◌, ◌<◌, List, [], ◌∷◌, ◌++◌, length, refl, ap, sym, ◌∙◌, arith, length-append, min, drop, replicate, inl, inr, ◌⊎◌, take}
+use Rattle.std.proofs.lemmas.List.{get_or-set_other, get_or_append_left, get_or_push, get_or-replicate, at_drop_more, get_or_past, take_more}
 use Rattle.std.proofs.lemmas.Grind.{get_or-set_at}
 use Rattle.std.proofs.lemmas.Bool.{cases_order, cases_lt}
 use Rattle.std.proofs.Math.ListN.{set}
@@ -11,7 +11,9 @@ use Rattle.std.proofs.lemmas.List.Sums.{sum_by-cons, sum_by-append}
 use Rattle.san_tree.specs.declared.instance.Instance.{Instance}
 use Rattle.san_tree.specs.declared.node.Node.{Node}
 use Rattle.san_tree.specs.declared.node.Node.TheVariants.{Leaf, Join, Rep}
-use Rattle.san_tree.specs.Instances.{below, joined, copied, instances_of, capped, counted, grown, instances}
+use Rattle.san_tree.specs.declared.limits.TheConstants.{MAX_NODES, MANY_LEAVES}
+use Rattle.san_tree.specs.Instances.{below, joined, copied, instances_of, capped, grown, instances}
+use Rattle.san_tree.specs.inner.Walks.{counted}
 
 -- the counts are those of the table's leaves, 0 past its end
 abbrev pub IsCounted : List ℕ → List (List Instance) → Type 0
@@ -29,7 +31,7 @@ joined-counted counts table h c (child ∷ children) =
     let front : sum_by (λ child. slice_index counts child.1) (child ∷ children) ≡ slice_index counts child.1 + sum_by (λ child. slice_index counts child.1) children = sum_by-cons (λ child. slice_index counts child.1) child children in
     omega (arith, front, long, one, rest, h child.1)
 
-pub sum-more : (counts : List ℕ) (children : List (List ℕ × ℕ)) (i : ℕ) (child : List ℕ × ℕ) (total n : ℕ) → i < length children → child ≡ slice_index_or children i child → n ≡ slice_index counts child.1 → total ≡ capped (sum_by (λ x. slice_index counts x.1) (take i children)) → min (total + n) 4097 ≡ capped (sum_by (λ x. slice_index counts x.1) (take (i + 1) children))
+pub sum-more : (counts : List ℕ) (children : List (List ℕ × ℕ)) (i : ℕ) (child : List ℕ × ℕ) (total n : ℕ) → i < length children → child ≡ slice_index_or children i child → n ≡ slice_index counts child.1 → total ≡ capped (sum_by (λ x. slice_index counts x.1) (take i children)) → min (total + n) MANY_LEAVES ≡ capped (sum_by (λ x. slice_index counts x.1) (take (i + 1) children))
 sum-more counts children i child total n h is e t =
     let one : sum_by (λ x. slice_index counts x.1) (child ∷ []) ≡ slice_index counts child.1 + 0 = sum_by-cons (λ x. slice_index counts x.1) child [] in
     let cut : take (i + 1) children ≡ take i children ++ child ∷ [] = take_more children i child h ∙ ap (λ x. take i children ++ x ∷ []) (sym is) in
@@ -75,15 +77,8 @@ grown-more counts nodes at n node r i f v (table, (e, h, g)) =
     let opened = ap (λ front. grown table (front ∷ drop (at + 1) nodes)) i in
     (table ++ instances ∷ [], (omega (arith, e, length-append table (instances ∷ [])), counted-push counts table at n instances h e f (v ∙ step-counted counts table h node), opened ∙ sym (at_drop_more (grown table) nodes at node r) ∙ g))
 
-pub grown-end : (counts : List ℕ) (nodes : List Node) (at : ℕ) → length nodes ≤ at → IsGrown counts nodes at → (root : ℕ) → slice_index counts root ≡ capped (length (instances nodes root))
-grown-end counts nodes at r (table, (e, h, g)) root =
-    h root ∙ ap (λ t. capped (length (slice_index_or t root []))) (sym (at_drop_all (grown table) nodes at r) ∙ g)
-
-pub grown-small : (counts : List ℕ) (nodes : List Node) (at : ℕ) → IsGrown counts nodes at → (k : ℕ) → slice_index counts k ≤ 4097
-grown-small counts nodes at (table, (e, h, g)) k = omega (arith, h k)
-
-pub grown-start : (nodes : List Node) → IsGrown (replicate 256 0) nodes 0
+pub grown-start : (nodes : List Node) → IsGrown (replicate MAX_NODES 0) nodes 0
 grown-start nodes = ([], (refl, (λ k. zeros k), refl))
   where
-    zeros : (k : ℕ) → slice_index (replicate 256 0) k ≡ 0
-    zeros k = elim (cases_lt k 256) [ inl h ↦ get_or-replicate 256 k 0 0 h | inr h ↦ get_or_past (replicate 256 0) k 0 h ]
+    zeros : (k : ℕ) → slice_index (replicate MAX_NODES 0) k ≡ 0
+    zeros k = elim (cases_lt k MAX_NODES) [ inl h ↦ get_or-replicate MAX_NODES k 0 0 h | inr h ↦ get_or_past (replicate MAX_NODES 0) k 0 h ]

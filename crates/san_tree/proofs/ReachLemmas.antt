@@ -8,7 +8,8 @@ use Rattle.std.specs.Prelude.{slice_index_or}
 use Rattle.san_tree.specs.declared.instance.Instance.{Instance}
 use Rattle.san_tree.specs.declared.node.Node.{Node}
 use Rattle.san_tree.specs.declared.node.Node.TheVariants.{Leaf, Join, Rep}
-use Rattle.san_tree.specs.Instances.{onto, below, joined, copied, instances_of, grown, instances, earlier, LeadsTo}
+use Rattle.san_tree.specs.Instances.{onto, below, joined, copied, instances_of, grown, instances, LeadsTo}
+use Rattle.san_tree.specs.inner.Walks.{earlier}
 use Rattle.san_tree.specs.Places.{node_at, node_of, child_of, reached}
 use Rattle.san_tree.proofs.WalkLemmas.{instances-at, own-child, no-child, grown-long}
 

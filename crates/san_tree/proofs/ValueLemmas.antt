@@ -1,7 +1,9 @@
 -- What sharing keeps, a climb keeps.
 use Rattle.std.proofs.Common.{◌≡◌, ℕ, zero, suc, ◌+◌, List, [], ◌∷◌, Option, Some, None, take, refl, ap, sym, ◌∙◌, arith}
 use Rattle.san_tree.specs.declared.node.Node.{Node}
-use Rattle.san_tree.specs.Places.{Step, node_at, child_of, shared_as, chain, climb, settled, home, reached, Keeps}
+use Rattle.san_tree.specs.declared.home.Home.{Home}
+use Rattle.san_tree.specs.Places.{Step, node_at, child_of, shared_as, chain, climb, home, reached, Keeps}
+use Rattle.san_tree.specs.inner.Walks.{settled}
 use Rattle.san_tree.proofs.ClimbLemmas.{settled-zero, settled-up, settled-shared, settled-unshared, home-settled}
 
 -- where a climb from the end of a path stops, seen from node n, and that it kept what is shown
@@ -30,5 +32,5 @@ climbs nodes shown h n (c ∷ path) p = by_share (climbs nodes shown h (child_of
 pub home-kept : {V : Type 0} (nodes : List Node) (shown : ℕ → ℕ → V) → Keeps nodes shown → (root : ℕ) (path : List ℕ) (p : ℕ) → shown (reached nodes root (take (home nodes root path p).depth path)) (home nodes root path p).place ≡ shown (reached nodes root path) p
 home-kept nodes shown h root path p =
     let r = climbs nodes shown h root path p in
-    let two = home-settled nodes root path p r.depth r.place (r.way []) in
-    ap (λ d. shown (reached nodes root (take d path)) (home nodes root path p).place) (sym two.0) ∙ ap (shown (reached nodes root (take r.depth path))) (sym two.1) ∙ r.kept
+    let same = home-settled nodes root path p r.depth r.place (r.way []) in
+    ap (λ (h : Home). shown (reached nodes root (take h.depth path)) h.place) (sym same) ∙ r.kept

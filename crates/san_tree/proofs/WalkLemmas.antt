@@ -1,5 +1,5 @@
 -- The walk over the leaves, node by node.
-use Rattle.std.proofs.Common.{◌≡◌, ℕ, zero, suc, ◌+◌, ◌<◌, ◌≤◌, List, [], ◌∷◌, ◌++◌, length, refl, ap, sym, ◌∙◌, subst, arith, map, take, append_assoc, append-nil, length-append, min, inl, inr, ◌⊎◌, Some, None}
+use Rattle.std.proofs.Common.{◌≡◌, ℕ, zero, suc, ◌+◌, ◌<◌, ◌≤◌, List, [], ◌∷◌, ◌++◌, length, refl, ap, sym, ◌∙◌, subst, arith, map, take, append_assoc, append-nil, length-append, inl, inr, ◌⊎◌, Some, None}
 use Rattle.std.specs.Prelude.{slice_get, unwrap_or, is_some}
 use Rattle.std.proofs.lemmas.Option.{slice_get_cases}
 use Rattle.std.proofs.Math.Bool.{true≢false}
@@ -7,7 +7,8 @@ use Rattle.std.specs.Prelude.{slice_index_or}
 use Rattle.std.proofs.lemmas.List.{length-take-le, map-append, take_more, get_or_append_left, get_or_push, take_all, take-append-le, get_or_past, length-take, get_or-take}
 use Rattle.san_tree.specs.declared.instance.Instance.{Instance}
 use Rattle.san_tree.specs.declared.node.Node.{Node}
-use Rattle.san_tree.specs.Instances.{below, joined, copied, instances_of, grown, instances, earlier, onto}
+use Rattle.san_tree.specs.Instances.{below, joined, copied, instances_of, grown, instances, onto}
+use Rattle.san_tree.specs.inner.Walks.{earlier}
 
 some-inj : {x y : Node} → Some x ≡ Some y → x ≡ y
 some-inj {x} h = ap (λ o. unwrap_or o x) h
@@ -107,10 +108,6 @@ no-child nodes n child h = get_or_past (earlier nodes n) child [] (omega (arith,
 
 pub own-child : (nodes : List Node) (n child : ℕ) → child < n → slice_index_or (earlier nodes n) child [] ≡ instances nodes child
 own-child nodes n child h = get_or-take n (grown [] nodes) child [] h
-
-pub no-instance : (xs : List Instance) → min (length xs) 4097 ≡ 0 → xs ≡ []
-no-instance [] h = refl
-no-instance (x ∷ xs) h = absurd (omega (arith, h))
 
 pub onto-nothing : (xs : List Instance) → map (onto []) xs ≡ xs
 onto-nothing [] = refl

@@ -1,6 +1,6 @@
 -- The leaves of a tree, in tree order.
-use Rattle.std.specs.Prelude.{ℕ, zero, suc, ◌+◌, ◌≡◌, List, [], ◌∷◌, ◌++◌, length, map, min, ◌≤◌, take, ◌*◌, slice_index, slice_index_or}
-use Rattle.std.specs.List.{sum_by}
+use Rattle.std.specs.Prelude.{ℕ, zero, suc, ◌+◌, ◌≡◌, List, [], ◌∷◌, ◌++◌, length, map, min, ◌≤◌, slice_index_or}
+use Rattle.san_tree.specs.declared.limits.TheConstants.{MANY_LEAVES}
 use Rattle.san_tree.specs.Places.{node_at, reached}
 use Rattle.san_tree.specs.declared.instance.Instance.{Instance}
 use Rattle.san_tree.specs.declared.node.Node.{Node}
@@ -38,19 +38,9 @@ grown table (n ∷ ns) = grown (table ++ instances_of table n ∷ []) ns
 abbrev pub instances : List Node → ℕ → List Instance
 instances nodes root = slice_index_or (grown [] nodes) root []
 
--- at most 4097 are counted
+-- no more are counted than that there are too many
 abbrev pub capped : ℕ → ℕ
-capped n = min n 4097
-
--- the number of leaves of a node, from the numbers of the earlier nodes' leaves
-abbrev pub counted : List ℕ → Node → ℕ
-counted counts (Leaf _) = 1
-counted counts (Join children _) = sum_by (λ child. slice_index counts child.1) children
-counted counts (Rep node times _) = slice_index counts node * times
-
--- the leaves of the nodes before node n
-abbrev pub earlier : List Node → ℕ → List (List Instance)
-earlier nodes n = take n (grown [] nodes)
+capped n = min n MANY_LEAVES
 
 -- the leaf's path has at most so many numbers
 abbrev pub IsWithin : ℕ → Instance → Type 0

@@ -1,3 +1,4 @@
 pub mod Places
 pub mod Instances
 pub mod Trees
+pub mod inner

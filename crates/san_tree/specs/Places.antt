@@ -1,6 +1,7 @@
 -- Which place of a node a child's place becomes, and the home of a leaf's place.
-use Rattle.std.specs.Prelude.{ℕ, zero, suc, ◌+◌, ◌≡◌, Bool, true, ◌&&◌, nat_eq, List, [], ◌∷◌, Option, Some, None, length, position, slice_index_or}
+use Rattle.std.specs.Prelude.{ℕ, ◌+◌, ◌≡◌, Bool, true, ◌&&◌, nat_eq, List, [], ◌∷◌, Option, Some, None, length, position, slice_index_or}
 use Rattle.std.specs.List.{list_any}
+use Rattle.san_tree.specs.declared.home.Home.{Home}
 use Rattle.san_tree.specs.declared.share.Share.{Share}
 use Rattle.san_tree.specs.declared.node.Node.{Node}
 use Rattle.san_tree.specs.declared.node.Node.TheVariants.{Leaf, Join, Rep}
@@ -49,28 +50,19 @@ abbrev pub chain : List Node → ℕ → List ℕ → List Step → List Step
 chain nodes n [] above = above
 chain nodes n (c ∷ path) above = chain nodes (child_of (node_at nodes n) c) path ((node_at nodes n, c) ∷ above)
 
-pub record HomeValue : Type 0 where
-  pub depth : ℕ
-  pub place : ℕ
-
-abbrev pub either : HomeValue → (ℕ → HomeValue) → Option ℕ → HomeValue
+abbrev pub either : Home → (ℕ → Home) → Option ℕ → Home
 either stop on None = stop
 either stop on (Some p) = on p
 
 -- at each node that shares the place it becomes that node's place; at the first that doesn't, stop
-unfoldable pub climb : ℕ → List Step → HomeValue
+unfoldable pub climb : ℕ → List Step → Home
 climb place [] = record { depth = 0; place = place }
 climb place ((node, child) ∷ above) =
     either (record { depth = length above + 1; place = place }) (λ p. climb p above) (shared_as node child place)
 
 -- the home of a place of the leaf at the end of a path from the root
-unfoldable pub home : List Node → ℕ → List ℕ → ℕ → HomeValue
+unfoldable pub home : List Node → ℕ → List ℕ → ℕ → Home
 home nodes root path place = climb place (chain nodes root path [])
-
--- a climb that came to node n's own place at depth 0 goes on above n; one that stopped below n stays
-unfoldable pub settled : ℕ → ℕ → List Step → HomeValue
-settled zero place above = climb place above
-settled (suc depth) place above = record { depth = length above + suc depth; place = place }
 
 -- a share has at most one place of each child
 abbrev pub NamesOnce : Share → Type 0

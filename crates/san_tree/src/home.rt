@@ -1,5 +1,9 @@
+//! Where a leaf's place ends as it is shared from node to node.
+
 ghost use Rattle.std.specs.Prelude.{◌≡◌, ◌≤◌, ◌<◌, ℕ, List, length, IfSome};
-ghost use Rattle.san_tree.specs.Places.{child_of, shared_as, width, node_at, climb, chain, settled, Step};
+ghost use Rattle.san_tree.specs.declared.limits.TheConstants.{MAX_PATH, MAX_SHARES};
+ghost use Rattle.san_tree.specs.Places.{child_of, shared_as, width, node_at, climb, chain, Step};
+ghost use Rattle.san_tree.specs.inner.Walks.{settled};
 
 use crate::node::Node;
 
@@ -14,8 +18,8 @@ pub struct Home {
 
 /// The climb from the end of a path up to node `n`, which has depth 0.
 pub(crate) fn climb(nodes: &[Node], n: u32, path: &[u32], place: u32) -> Home
-    requires short { length path.now ≤ 255 }
-    requires narrow { (k : ℕ) → width (node_at nodes.now k) ≤ 1024 }
+    requires short { length path.now ≤ MAX_PATH }
+    requires narrow { (k : ℕ) → width (node_at nodes.now k) ≤ MAX_SHARES }
     ensures near { result.depth ≤ length path.now }
     ensures way { (above : List Step) → climb place (chain nodes.now n path.now above) ≡ settled result.depth result.place above }
 {

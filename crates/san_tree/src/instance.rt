@@ -1,6 +1,9 @@
+//! The leaves of a tree, one after another.
+
 ghost use Rattle.std.specs.Prelude.{◌≡◌, ◌≤◌, ◌++◌, ℕ, [], length, map, slice_index, slice_index_or, slice_get, IfOk, OnOk};
 ghost use Rattle.std.specs.Option.{option_copied};
-ghost use Rattle.san_tree.specs.Instances.{capped, instances, onto, below, earlier};
+ghost use Rattle.san_tree.specs.Instances.{capped, instances, onto, below};
+ghost use Rattle.san_tree.specs.inner.Walks.{earlier};
 ghost use Rattle.san_tree.specs.Places.{node_at};
 ghost use Rattle.san_tree.specs.Trees.{IsNode};
 
@@ -25,6 +28,13 @@ impl Instance {
         let path = Items::from_slice(alloc, path)?;
         Ok(Instance { path, atomic })
     }
+}
+
+/// A child or a copy of a node: its number there, and the node that it is.
+#[derive(Clone, Copy)]
+struct Child {
+    number: u32,
+    node: u32,
 }
 
 fn fetch(nodes: &[Node], n: u32) -> Option<&Node>
@@ -57,40 +67,47 @@ pub(crate) fn walk(
         }
         Some(Node::Join { children, .. }) => {
             'children: for (c, child) in children.as_slice().iter().enumerate() {
-                branch(alloc, nodes, counts, n, child.1, c as u32, path, out)?;
+                let child = Child {
+                    number: c as u32,
+                    node: child.1,
+                };
+                walk_child(alloc, nodes, counts, n, child, path, out)?;
             }
             Ok(())
         }
         Some(Node::Rep { node, times, .. }) => {
             'copies: for c in 0..*times {
-                branch(alloc, nodes, counts, n, *node, c, path, out)?;
+                let child = Child {
+                    number: c,
+                    node: *node,
+                };
+                walk_child(alloc, nodes, counts, n, child, path, out)?;
             }
             Ok(())
         }
     }
 }
 
-/// Puts the leaves of child `c` of node `n` behind those in `out`. A child without leaves isn't
+/// Puts the leaves of a child of node `n` behind those in `out`. A child without leaves isn't
 /// walked, since nested joins can name it more often than any run can count.
 #[cycle(walking)]
-fn branch(
+fn walk_child(
     alloc: Global,
     nodes: &[Node],
     counts: &[u32],
     n: u32,
-    child: u32,
-    c: u32,
+    child: Child,
     path: &mut Vec<u32>,
     out: &mut Vec<Instance>,
 ) -> Result<(), NoMemory>
     requires counted { (k : ℕ) → slice_index counts.now k ≡ capped (length (instances nodes.now k)) }
     requires each { (k : ℕ) → IsNode k (node_at nodes.now k) }
     ensures way { OnOk result (path.new.items ≡ path.old.items) }
-    ensures more { OnOk result (out.new.items ≡ out.old.items ++ map (onto path.old.items) (below c (slice_index_or (earlier nodes.now n) child []))) }
+    ensures more { OnOk result (out.new.items ≡ out.old.items ++ map (onto path.old.items) (below child.number (slice_index_or (earlier nodes.now n) child.node []))) }
 {
-    if child < n && count_at(counts, child) > 0 {
-        path.push(c)?;
-        walk(alloc, nodes, counts, child, path, out)?;
+    if child.node < n && count_at(counts, child.node) > 0 {
+        path.push(child.number)?;
+        walk(alloc, nodes, counts, child.node, path, out)?;
         let _ = path.pop();
     }
     Ok(())

@@ -1,3 +1,5 @@
+//! Laws of homes, shares and paths.
+
 ghost use Rattle.std.specs.Prelude.{◌≡◌, ℕ, List, take};
 ghost use Rattle.std.specs.List.{All};
 ghost use Rattle.san_tree.specs.Places.{node_at, home, reached, shares_of, NamesOnce, SharesApart, Keeps};

@@ -5,16 +5,16 @@ mod counts;
 mod home;
 mod instance;
 mod laws;
+mod limits;
 mod node;
 mod share;
-#[cfg(test)]
-mod tests;
 mod tree;
 mod valid;
 
 pub use home::Home;
 pub use instance::Instance;
 pub use laws::{homes_apart, homes_keep, paths_lead, shares_apart};
+pub use limits::{MAX_CHILDREN, MAX_NODES, MAX_PATH, MAX_SHARES};
 pub use node::Node;
 pub use san_base::{Items, Name, NoMemory};
 pub use share::Share;

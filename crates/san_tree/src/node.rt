@@ -1,3 +1,5 @@
+//! Nodes: leaves, joins and replicates.
+
 ghost use Rattle.std.specs.Prelude.{◌≡◌, ◌<◌, length, position, nat_eq, IfSome};
 ghost use Rattle.san_tree.specs.Places.{child_of, node_of, shared_as, width};
 

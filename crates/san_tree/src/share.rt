@@ -1,3 +1,5 @@
+//! The shares of a join.
+
 ghost use Rattle.std.specs.Prelude.{◌≡◌, ◌<◌, length, position, IfSome};
 ghost use Rattle.san_tree.specs.Places.{names};
 
@@ -13,6 +15,7 @@ pub struct Share {
 }
 
 impl Share {
+    /// Whether a place of a child is among the parts.
     pub fn names(&self, child: u32, place: u32) -> bool
         ensures { result ≡ names child place self.now }
     {

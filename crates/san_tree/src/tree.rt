@@ -1,3 +1,5 @@
+//! A tree of nodes, with its homes and leaves.
+
 ghost use Rattle.std.specs.Prelude.{◌≡◌, ◌↔◌, ◌≤◌, length, IfOk, IfSome, IsSome};
 ghost use Rattle.std.specs.List.{All};
 ghost use Rattle.san_tree.specs.Places.{home};
@@ -22,6 +24,8 @@ pub struct Tree {
 }
 
 impl Tree {
+    ghost use Rattle.san_tree.specs.declared.limits.TheConstants.{MAX_PATH};
+
     /// The tree of these nodes, or none where they make no tree.
     pub fn new(nodes: Items<Node>, root: u32) -> Option<Tree>
         ensures exactly { IsSome result ↔ IsTree nodes root }
@@ -37,14 +41,13 @@ impl Tree {
     /// The home of a place of the leaf at the end of a path of child and copy numbers. Takes no
     /// memory, and one step for each number of the path. Own rule.
     pub fn home(&self, path: &[u32], place: u32) -> Home
-        requires { length path.now ≤ 255 }
-        ensures depth { result.depth ≡ (home self.now.nodes self.now.root path.now place).depth }
-        ensures place { result.place ≡ (home self.now.nodes self.now.root path.now place).place }
+        requires { length path.now ≤ MAX_PATH }
+        ensures { result ≡ home self.now.nodes self.now.root path.now place }
     {
         climb(self.nodes.as_slice(), self.root, path, place)
     }
 
-    /// The number of leaves, or 4097 where there are more. Takes no memory, and one pass over the
+    /// The number of leaves, or one more than a network may have where there are more. Takes no memory, and one pass over the
     /// nodes.
     pub fn leaves(&self) -> u32
         ensures { result ≡ capped (length (instances self.now.nodes self.now.root)) }
@@ -56,7 +59,7 @@ impl Tree {
     /// The leaves in tree order.
     pub fn instances(&self, alloc: Global) -> Result<Vec<Instance>, NoMemory>
         ensures order { IfOk result (λ v. v.items ≡ instances self.now.nodes self.now.root) }
-        ensures within { IfOk result (λ v. All (IsWithin 255) v.items) }
+        ensures within { IfOk result (λ v. All (IsWithin MAX_PATH) v.items) }
     {
         let counts = counts(self.nodes.as_slice());
         let mut path = Vec::new(alloc);

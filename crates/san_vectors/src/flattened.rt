@@ -1,13 +1,9 @@
-//! The networks of models, leaf by leaf, and the models that are too large for one; all worked out by
-//! hand.
+//! The networks of models, leaf by leaf; worked out by hand.
 
 use crate::models::{LOW_HIGH, POKE, PROCESSORS};
-use crate::reading::nested_joins;
+use crate::reading::network;
 use san_base::{LeafId, PlaceId};
-use san_check::check;
-use san_flat::{FlatFault, flatten};
 use san_net::{Flat, Slot};
-use san_text::parse;
 use std::alloc::Global;
 use std::test::Fail;
 
@@ -30,21 +26,6 @@ const NETWORKS: [(&str, &str); 6] = [
     ),
     ("san 1; atomic x { place p = 7; } system x;", "x 0: 0\n7\n"),
 ];
-
-/// The network of a text, or why it has none; nothing where the text isn't a model's.
-#[tactic(auto, using(crate::proofs::ReadLemmas::read))]
-fn network(alloc: Global, text: &[u8]) -> Option<Result<Flat, FlatFault>> {
-    if text.len() > 67108864 {
-        return None;
-    }
-    match parse(alloc, text) {
-        Ok(parsed) => match check(alloc, &parsed.syntax) {
-            Ok(model) => Some(flatten(alloc, &model)),
-            Err(_) => None,
-        },
-        Err(_) => None,
-    }
-}
 
 fn push_slot(alloc: Global, told: &mut Vec<u8>, slot: Slot) -> Result<(), Fail> {
     let text = match slot {
@@ -92,82 +73,9 @@ fn told(alloc: Global, flat: &Flat) -> Result<Vec<u8>, Fail> {
 #[test]
 fn tells_the_networks(rt: HostRuntime) -> Result<(), Fail> {
     for (row, (text, want)) in NETWORKS.iter().enumerate() {
-        let made = network(rt.alloc(), text.as_bytes()).expect(&rt, "model");
-        let flat = made.expect(&rt, "network");
+        let flat = network(rt.alloc(), *text).expect(&rt, "network");
         let lines = told(rt.alloc(), &flat)?;
         assert_eq!(rt; lines.as_slice(), want.as_bytes(), "row {row}");
-    }
-    Ok(())
-}
-
-/// An atomic of an array of so many cells and so many activities, so many copies of it, and beside
-/// them an atomic with one place.
-fn copies_of(
-    alloc: Global,
-    cells: u32,
-    acts: u32,
-    times: u32,
-    more: bool,
-) -> Result<Vec<u8>, Fail> {
-    let mut text = Vec::new(alloc);
-    text.extend_from_slice(b"san 3; atomic one { place p; } atomic a { ")?;
-    if cells > 0 {
-        text.extend_from_slice(format!(in alloc; "place q[{cells}]; ")?.as_bytes())?;
-    }
-    for act in 0..acts {
-        text.extend_from_slice(format!(in alloc; "instant t{act} {{ }} ")?.as_bytes())?;
-    }
-    text.extend_from_slice(format!(in alloc; "}} rep r = a times {times} {{ }} ")?.as_bytes())?;
-    text.extend_from_slice(b"join j { child r = r; child s = one; } ")?;
-    text.extend_from_slice(if more { b"system j;" } else { b"system r;" })?;
-    Ok(text)
-}
-
-/// Cells, activities, copies, whether the other atomic stands beside them, and the answer: no fault,
-/// or the least limit that is passed.
-const SIZES: [(u32, u32, u32, bool, Option<FlatFault>); 9] = [
-    (0, 0, 4096, false, None),
-    (0, 0, 4096, true, Some(FlatFault::Leaves)),
-    (17, 0, 4096, true, Some(FlatFault::Leaves)),
-    (16, 0, 4096, false, None),
-    (256, 0, 256, false, None),
-    (256, 0, 256, true, Some(FlatFault::Places)),
-    (256, 256, 257, false, Some(FlatFault::Places)),
-    (0, 256, 256, false, None),
-    (1, 256, 257, false, Some(FlatFault::Acts)),
-];
-
-#[test]
-fn keeps_the_limits(rt: HostRuntime) -> Result<(), Fail> {
-    for (row, (cells, acts, times, more, want)) in SIZES.iter().enumerate() {
-        assert!(rt; *acts < 1000);
-        let text = copies_of(rt.alloc(), *cells, *acts, *times, *more)?;
-        let made = network(rt.alloc(), &text).expect(&rt, "model");
-        assert_eq!(rt; made.err(), *want, "row {row}");
-    }
-    Ok(())
-}
-
-/// A tree whose nodes have no leaf has no place and no activity.
-#[test]
-fn has_no_leaf(rt: HostRuntime) -> Result<(), Fail> {
-    let text = nested_joins(rt.alloc())?;
-    let made = network(rt.alloc(), text.as_bytes()).expect(&rt, "model");
-    let flat = made.expect(&rt, "network");
-    assert_eq!(rt; (flat.leaves(), flat.places(), flat.acts()), (0, 0, 0));
-    Ok(())
-}
-
-/// Each fault's text is its name.
-#[test]
-fn names_the_faults(rt: HostRuntime) -> Result<(), Fail> {
-    for (fault, name) in [
-        (FlatFault::Leaves, "Leaves"),
-        (FlatFault::Places, "Places"),
-        (FlatFault::Acts, "Acts"),
-        (FlatFault::NoMemory, "NoMemory"),
-    ] {
-        assert_eq!(rt; format!(in rt.alloc(); "{fault}")?.as_str(), name);
     }
     Ok(())
 }

@@ -1,23 +1,13 @@
-//! Worked rows as tests, across the crates. Their values were worked out by hand, or by programs
-//! that share nothing with this one.
+//! What no row of `sanrows` can say: calls of the libraries below the top, each with values that
+//! were worked out by hand or by programs that share nothing with this one.
 #![tactic(auto)]
 
 #[cfg(test)]
-mod activities;
-#[cfg(test)]
-mod canonical;
-#[cfg(test)]
-mod checked;
-#[cfg(test)]
-mod checked_limits;
-#[cfg(test)]
-mod checked_models;
+mod chains;
 #[cfg(test)]
 mod draws;
 #[cfg(test)]
 mod flattened;
-#[cfg(test)]
-mod grammar;
 #[cfg(test)]
 mod lines;
 #[cfg(test)]
@@ -25,14 +15,20 @@ mod models;
 #[cfg(test)]
 mod network;
 #[cfg(test)]
-mod probes;
+mod parts;
 #[cfg(test)]
-mod programs;
+mod positions;
+#[cfg(test)]
+mod probes;
 #[cfg(test)]
 mod reading;
 #[cfg(test)]
 mod rewards;
 #[cfg(test)]
 mod sequential;
+#[cfg(test)]
+mod streams;
+#[cfg(test)]
+mod versions;
 #[cfg(test)]
 mod winners;

@@ -1,14 +1,14 @@
-//! Two small leaves that share a place: what stands first in one, and the network of both.
+//! The network of two small leaves that share a place, assembled and read back.
 
 ghost use Rattle.std.specs.Prelude.{◌≡◌, ◌≤◌, [], ◌∷◌, IfOk};
 ghost use Rattle.san_net.specs.Examples.{get_part, getter, moving, one_case, put_and_get, put_part, putter, taking};
 ghost use Rattle.san_net.specs.declared.activity.Output.TheVariants as output;
 
 use san_base::{ActId, LeafId, Name, NoMemory, PlaceId, Shared, Tick};
-use san_expr::{Boxed, Dist, Expr, Items, Marking, Op, Trap};
+use san_expr::{Dist, Expr, Items};
 use san_net::{
-    ActKind, Activity, Atomic, Case, Flat, Found, Input, Output, Part, Path, Reward, Slot, Span,
-    acts_below, first_instant, instants, two_leaves_are_a_network,
+    ActKind, Activity, Atomic, Case, Flat, Input, Output, Part, Path, Reward, Slot, Span, instants,
+    two_leaves_are_a_network,
 };
 use std::alloc::Global;
 use std::test::Fail;
@@ -186,94 +186,6 @@ fn places_and_activities(rt: HostRuntime) -> Result<(), Fail> {
         if act < flat.acts() {
             assert_eq!(rt; flat.leaf_of(ActId(act)), LeafId(leaf), "at {act}");
         }
-    }
-    Ok(())
-}
-
-/// `place n; place s; instant a { gate 1 / 0; } instant b priority 5 { in s; out n; }`
-fn trapping(alloc: Global) -> Result<Atomic, NoMemory> {
-    let broken = Expr::Binary(
-        Op::Div,
-        Boxed::new(alloc, Expr::Number(1))?,
-        Boxed::new(alloc, Expr::Number(0))?,
-    );
-    let mut inputs = Items::new(alloc);
-    inputs.push(Input::Gate(broken, Items::new(alloc)))?;
-    let gated = Activity {
-        kind: ActKind::Instant { priority: 0 },
-        inputs,
-        cases: one_case(alloc, 0)?,
-    };
-    let mut acts = Items::new(alloc);
-    acts.push((name(alloc, b'a')?, gated))?;
-    acts.push((name(alloc, b'b')?, taking(alloc, 5, 1, 1, 0)?))?;
-    atomic_with(alloc, acts)
-}
-
-/// An atomic of two empty places with these activities, at most two.
-fn atomic_with(alloc: Global, acts: Items<(Name, Activity)>) -> Result<Atomic, NoMemory> {
-    let order = if acts.len() <= 2 {
-        instants(alloc, acts.as_slice())?
-    } else {
-        Items::new(alloc)
-    };
-    Ok(Atomic {
-        name: name(alloc, b'a')?,
-        initial: Items::from_slice(alloc, &[0, 0])?,
-        instants: order,
-        acts,
-        rates: Items::new(alloc),
-        impulses: Items::new(alloc),
-    })
-}
-
-/// Two activities of one priority.
-fn equal(alloc: Global) -> Result<Atomic, NoMemory> {
-    let mut acts = Items::new(alloc);
-    acts.push((name(alloc, b'a')?, taking(alloc, 3, 1, 1, 0)?))?;
-    acts.push((name(alloc, b'b')?, taking(alloc, 3, 1, 1, 0)?))?;
-    atomic_with(alloc, acts)
-}
-
-/// What stands first at these tokens, or none where the atomic has other cells.
-fn first_at(alloc: Global, atomic: &Atomic, tokens: [u32; 2]) -> Result<Option<Found>, NoMemory> {
-    let mut view = Marking::new(Vec::from_slice(alloc, &tokens)?);
-    if view.as_slice().len() == 2 && acts_below(atomic.acts.as_slice(), 2) {
-        Ok(Some(first_instant(atomic, &mut view)))
-    } else {
-        Ok(None)
-    }
-}
-
-/// The getter, the putter, the one that traps and the one of equal priorities.
-fn atomics(alloc: Global) -> Result<[Atomic; 4], NoMemory> {
-    Ok([
-        getter(alloc)?,
-        putter(alloc)?,
-        trapping(alloc)?,
-        equal(alloc)?,
-    ])
-}
-
-#[test]
-fn first_by_priority(rt: HostRuntime) -> Result<(), Fail> {
-    let alloc = rt.alloc();
-    let atomics = atomics(alloc)?;
-    let table: [(usize, [u32; 2], Found); 7] = [
-        (0, [9, 0], Found::Nothing),
-        (0, [0, 1], Found::Enabled(0)),
-        (0, [0, 2], Found::Enabled(1)),
-        (1, [1, 1], Found::Nothing),
-        (2, [0, 0], Found::Broken(0, Trap::Arith)),
-        (2, [0, 1], Found::Enabled(1)),
-        (3, [0, 1], Found::Enabled(0)),
-    ];
-    for (at, tokens, want) in table {
-        let found = match atomics.get(at) {
-            Some(atomic) => first_at(alloc, atomic, tokens)?,
-            None => None,
-        };
-        assert_eq!(rt; found, Some(want), "at {at} {tokens:?}");
     }
     Ok(())
 }

@@ -1,10 +1,10 @@
 //! Rewards of a small run that were worked out by hand.
 
-use crate::models::{COUNTER, FAULTY_COUNTER, PROCESSORS};
+use crate::models::COUNTER;
 use crate::network::put_and_get;
 use crate::reading::network;
 use san_base::{LeafId, Tick};
-use san_reward::{Rated, Tally, Worth, rated};
+use san_reward::{Rated, Tally, Worth};
 use std::test::Fail;
 
 /// The network's reward is at tick 6: the impulse at 5 is before it, and the one at 7 behind it.
@@ -22,16 +22,6 @@ fn impulses_around_a_tick(rt: HostRuntime) -> Result<(), Fail> {
     tally.advance(Tick(1000000000000));
     assert_eq!(rt; tally.value(0), Worth::Sum(-20));
     assert_eq!(rt; copy.value(0), Worth::Sum(-20));
-    Ok(())
-}
-
-/// The bounds of a term's value.
-#[test]
-fn values_of_terms(rt: HostRuntime) -> Result<(), Fail> {
-    assert_eq!(rt; rated(Ok(1000000000)), Rated::Value(1000000000));
-    assert_eq!(rt; rated(Ok(1000000001)), Rated::Fault);
-    assert_eq!(rt; rated(Ok(-1000000000)), Rated::Value(-1000000000));
-    assert_eq!(rt; rated(Ok(-1000000001)), Rated::Fault);
     Ok(())
 }
 
@@ -66,49 +56,5 @@ fn three_rewards(rt: HostRuntime) -> Result<(), Fail> {
     assert_eq!(rt; tally.value(0), Worth::Sum(27));
     assert_eq!(rt; tally.value(1), Worth::Mean(27, 10));
     assert_eq!(rt; tally.value(2), Worth::Sum(2));
-    Ok(())
-}
-
-/// Intervals that end behind the horizon, and a rate that traps at the first ticks.
-#[test]
-fn beyond_and_fault(rt: HostRuntime) -> Result<(), Fail> {
-    let flat = network(rt.alloc(), FAULTY_COUNTER).expect(&rt, "network");
-    assert!(rt; flat.places() == 2);
-    assert!(rt; flat.rewards().len() == 3);
-    let mut early = Tally::open(rt.alloc(), &flat, Tick(8))?;
-    early.rate_all(&flat, &[1, 0]);
-    early.advance(Tick(6));
-    early.rate_all(&flat, &[1, 2]);
-    assert_eq!(rt; early.value(0), Worth::Beyond);
-    assert_eq!(rt; early.value(1), Worth::Beyond);
-    assert_eq!(rt; early.value(2), Worth::Sum(2));
-    let mut tally = Tally::open(rt.alloc(), &flat, Tick(10))?;
-    tally.rate_all(&flat, &[1, 0]);
-    tally.advance(Tick(3));
-    tally.rate_all(&flat, &[1, 1]);
-    assert_eq!(rt; tally.value(0), Worth::Fault);
-    assert_eq!(rt; tally.value(1), Worth::Mean(7, 10));
-    Ok(())
-}
-
-/// Both processors fail at 5, and the crew repairs them at 7 and 9.
-#[test]
-fn two_processors_and_one_crew(rt: HostRuntime) -> Result<(), Fail> {
-    let flat = network(rt.alloc(), PROCESSORS).expect(&rt, "network");
-    assert!(rt; flat.leaves() == 3);
-    assert!(rt; flat.places() == 3);
-    assert!(rt; flat.rewards().len() == 2);
-    let mut tally = Tally::open(rt.alloc(), &flat, Tick(20))?;
-    tally.rate_all(&flat, &[0, 1, 1]);
-    tally.advance(Tick(5));
-    tally.impulse(0, Rated::Value(10));
-    tally.impulse(0, Rated::Value(10));
-    tally.rate_all(&flat, &[2, 0, 0]);
-    tally.advance(Tick(7));
-    tally.rate_of_leaf(&flat, LeafId(2), &[1, 0, 0]);
-    tally.advance(Tick(9));
-    tally.rate_of_leaf(&flat, LeafId(2), &[0, 0, 0]);
-    assert_eq!(rt; tally.value(0), Worth::Sum(50));
-    assert_eq!(rt; tally.value(1), Worth::Mean(6, 20));
     Ok(())
 }

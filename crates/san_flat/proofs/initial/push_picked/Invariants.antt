@@ -1,5 +1,5 @@
 use Rattle.std.proofs.Common.{◌≡◌, ◌++◌, drop}
-use Rattle.san_flat.specs.Sightings.{picked}
+use Rattle.san_flat.specs.inner.Sightings.{picked}
 use Rattle.san_flat.proofs.initial.push_picked.Given as goal
 
 abbrev pub invariant-counts : goal.invariant-counts

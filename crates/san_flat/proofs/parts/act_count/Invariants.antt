@@ -1,5 +1,5 @@
 use Rattle.std.proofs.Common.{◌≡◌, min, take}
-use Rattle.san_flat.specs.Networks.{acts_in}
+use Rattle.san_flat.specs.inner.Models.{acts_in}
 use Rattle.san_flat.proofs.parts.act_count.Given as goal
 
 abbrev pub invariant-leaves : goal.invariant-leaves

@@ -1,5 +1,5 @@
 use Rattle.std.proofs.Common.{◌≡◌, ◌+◌, ◌++◌, drop}
-use Rattle.san_flat.specs.Networks.{acts_in, parts_from}
+use Rattle.san_flat.specs.inner.Models.{acts_in, parts_from}
 use Rattle.san_flat.proofs.parts.parts_of.Given as goal
 
 abbrev pub invariant-leaves : goal.invariant-leaves

@@ -1,6 +1,6 @@
 use Rattle.std.proofs.Common.{◌+◌, take}
 use Rattle.san_flat.proofs.CodeLemmas.{all-fit, leaves-many, leaves-seen, too-many}
-use Rattle.san_flat.specs.Networks.{homes_from, values_from}
+use Rattle.san_flat.specs.inner.Models.{homes_from, values_from}
 use Rattle.san_flat.proofs.seen.see_all.Goals as goal
 
 pub returns-then-not-branch : goal.returns-then-not-branch

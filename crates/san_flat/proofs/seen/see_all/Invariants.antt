@@ -1,6 +1,6 @@
 use Rattle.std.proofs.Common.{take, true}
-use Rattle.san_flat.specs.Networks.{homes_from, values_from}
-use Rattle.san_flat.specs.Sightings.{Sees}
+use Rattle.san_flat.specs.inner.Models.{homes_from, values_from}
+use Rattle.san_flat.specs.inner.Sightings.{Sees}
 use Rattle.san_flat.proofs.seen.see_all.Given as goal
 
 abbrev pub invariant-leaves : goal.invariant-leaves

@@ -1,4 +1,4 @@
-use Rattle.san_lex.specs.Lexing.{tokens}
+use Rattle.san_lex.specs.Lexer.{tokens}
 use Rattle.san_lex.proofs.WordLemmas.{lex_words}
 use Rattle.san_lex.proofs.laws.read_words_can_be_written.Goals as goal
 

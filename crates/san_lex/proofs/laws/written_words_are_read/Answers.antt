@@ -1,4 +1,4 @@
-use Rattle.san_lex.specs.Lexing.{tokens}
+use Rattle.san_lex.specs.Lexer.{tokens}
 use Rattle.san_lex.specs.Layout.{Line}
 use Rattle.san_lex.proofs.LayoutLemmas.{layout_law}
 use Rattle.san_lex.proofs.laws.written_words_are_read.Goals as goal

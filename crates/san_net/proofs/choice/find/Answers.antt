@@ -3,7 +3,7 @@ use Rattle.std.proofs.lemmas.List.{drop_all}
 use Rattle.std.proofs.lemmas.Result.{err_from_is_err_and}
 use Rattle.san_expr.specs.Meets.{Evaluates}
 use Rattle.san_net.specs.Below.{case_below}
-use Rattle.san_net.specs.Weighing.{found_from}
+use Rattle.san_net.specs.inner.Weighing.{found_from}
 use Rattle.san_net.proofs.TurnLemmas.{Finds, finds_more, finds_here, finds_trap, finds_end, rest_at, first_below}
 use Rattle.san_net.proofs.choice.find.Goals as goal
 

@@ -1,4 +1,4 @@
-use Rattle.std.proofs.Common.{◌∙◌, ap, sym, subst, map, List, ℕ, Some}
+use Rattle.std.proofs.Common.{◌++◌, ◌∙◌, ap, sym, subst, drop, length, map, take, List, ℕ, Some}
 use Rattle.std.specs.List.{list_any}
 use Rattle.san_net.specs.Laid.{place_of, places_of}
 use Rattle.san_net.specs.declared.part.Part.{Part}
@@ -7,7 +7,9 @@ use Rattle.san_plain.specs.inner.Rates.{FollowsPlaces, differs_at}
 use Rattle.san_plain.proofs.FollowLemmas.{all_new, all_rates, kept_caught, kept_same, none_new}
 use Rattle.san_plain.proofs.RateLemmas.{follows_on}
 use Rattle.san_plain.proofs.rates.update_rates.Goals as goal
+use Rattle.san_law.specs.State.{gather, scatter}
 use Rattle.san_net.specs.Cells.{IsOver}
+use Rattle.san_seq.proofs.CompletionLemmas.{refilled}
 use Rattle.san_net.proofs.CellLemmas.{CaughtUp, copied}
 use Rattle.san_net.proofs.PartLemmas.{lies_over}
 
@@ -35,9 +37,17 @@ returns-then-rate_others-clause-kept c =
     let m = c.args.marking.now in
     let before = c.args.kept.now.items in
     let p = c.get-part.result.now in
-    let is = c.part.ensures ∙ ap (λ (q : Part). Some q) (sym c.get-part.ensures) in
-    kept_caught c.args.flat.now c.args.leaf.0 p is before m (c.requires.differs p is) c.copy_cells.new.kept.items (c.requires.kept ∙ sym c.requires.marking)
-    (subst (λ (ss : List Slot). CaughtUp (map place_of ss) m before c.copy_cells.new.kept.items) c.as_slice.ensures c.copy_cells.ensures)
+    let is_part = c.part.ensures ∙ ap (λ (q : Part). Some q) (sym c.get-part.ensures) in
+    let now = c.copy_cells.new.to in
+    let new : List ℕ = take c.args.kept.now.len (now ++ drop (length now) before) in
+    let slots = c.as_slice.result.now in
+    let over = subst (λ (ss : List Slot). IsOver (map place_of ss) m) (sym c.as_slice.ensures) (lies_over c.args.flat.now c.args.leaf.0 p is_part m c.requires.marking c.is_network.ensures.laid) in
+    let is = refilled c.args.kept.now.len now (drop (length now) before) c.deref_mut.result.now (map place_of slots) _ c.copy_cells.ensures c.deref_mut.ensures.len ∙ c.copy_cells.ensures
+    ∙ ap (scatter (map place_of slots) (gather (map place_of slots) m)) c.deref_mut.ensures.value in
+    let same = c.requires.kept ∙ sym c.requires.marking in
+    kept_caught c.args.flat.now c.args.leaf.0 p is_part before m (c.requires.differs p is_part) new same
+    (subst (λ (ss : List Slot). CaughtUp (map place_of ss) m before new) c.as_slice.ensures
+    (subst (λ (ys : List ℕ). CaughtUp (map place_of slots) m before ys) (sym is) (copied (map place_of slots) m before same over.within)))
 
 pub returns-else-rate_others-clause-rates : goal.returns-else-rate_others-clause-rates
 returns-else-rate_others-clause-rates c =

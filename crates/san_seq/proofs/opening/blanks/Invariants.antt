@@ -1,5 +1,5 @@
 use Rattle.std.proofs.Common.{◌≡◌, take}
-use Rattle.san_seq.specs.Openings.{rows_of}
+use Rattle.san_seq.specs.inner.Openings.{rows_of}
 use Rattle.san_seq.proofs.opening.blanks.Given as goal
 
 abbrev pub invariant-leaves : goal.invariant-leaves

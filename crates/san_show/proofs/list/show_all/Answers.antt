@@ -1,5 +1,5 @@
 use Rattle.std.proofs.Common.{ap, ◌∙◌}
-use Rattle.san_show.specs.Pages.{written}
+use Rattle.san_show.specs.inner.Pages.{written}
 use Rattle.san_show.proofs.PageLemmas.{items_turn, all_words}
 use Rattle.san_show.proofs.list.show_all.Goals as goal
 

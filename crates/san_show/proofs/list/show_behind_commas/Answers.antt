@@ -1,8 +1,8 @@
 use Rattle.std.proofs.Common.{ap, ◌∙◌}
 use Rattle.san_lex.specs.declared.sign.Mark.TheVariants as mark
 use Rattle.san_lex.specs.declared.sign.Sign.TheVariants as sign
-use Rattle.san_lex.specs.Lexing.{Fixed}
-use Rattle.san_show.specs.Pages.{Written, put, written}
+use Rattle.san_lex.specs.Lexer.{Fixed}
+use Rattle.san_show.specs.inner.Pages.{Written, put, written}
 use Rattle.san_show.proofs.PageLemmas.{items_turn, all_words, behind_comma}
 use Rattle.san_show.proofs.list.show_behind_commas.Goals as goal
 

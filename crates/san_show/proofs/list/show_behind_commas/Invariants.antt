@@ -1,5 +1,5 @@
 use Rattle.std.proofs.Common.{◌≡◌, drop}
-use Rattle.san_show.specs.Pages.{written}
+use Rattle.san_show.specs.inner.Pages.{written}
 use Rattle.san_show.proofs.PageLemmas.{all_words, behind_comma}
 use Rattle.san_show.proofs.list.show_behind_commas.Given as goal
 

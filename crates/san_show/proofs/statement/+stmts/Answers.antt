@@ -1,6 +1,6 @@
 use Rattle.std.proofs.Common.{ap, ◌∙◌}
 use Rattle.san_text.specs.Spelling.{stmt_words}
-use Rattle.san_show.specs.Pages.{written}
+use Rattle.san_show.specs.inner.Pages.{written}
 use Rattle.san_show.proofs.PageLemmas.{items_turn, all_words}
 use Rattle.san_show.proofs.StatementLemmas.{set_shown, cell_shown, if_shown}
 use Rattle.san_show.proofs.statement.+stmts.Goals as goal

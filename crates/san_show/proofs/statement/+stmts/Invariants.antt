@@ -1,6 +1,6 @@
 use Rattle.std.proofs.Common.{◌≡◌, drop}
 use Rattle.san_text.specs.Spelling.{stmt_words}
-use Rattle.san_show.specs.Pages.{written}
+use Rattle.san_show.specs.inner.Pages.{written}
 use Rattle.san_show.proofs.PageLemmas.{all_words}
 use Rattle.san_show.proofs.statement.+stmts.Given as goal
 

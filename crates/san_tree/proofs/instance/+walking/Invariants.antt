@@ -1,10 +1,11 @@
 use Rattle.std.proofs.Common.{◌≡◌, ◌+◌, ◌*◌, ◌++◌, map, take, []}
 use Rattle.std.specs.Prelude.{slice_index_or}
-use Rattle.san_tree.specs.Instances.{joined, copied, earlier, onto}
+use Rattle.san_tree.specs.Instances.{joined, copied, onto}
+use Rattle.san_tree.specs.inner.Walks.{earlier}
 use Rattle.san_tree.proofs.instance.+walking.Given as goal
 
-abbrev pub decreases-branch : goal.decreases-branch
-decreases-branch l = 2 * l.n
+abbrev pub decreases-walk_child : goal.decreases-walk_child
+decreases-walk_child l = 2 * l.n
 
 abbrev pub decreases-walk : goal.decreases-walk
 decreases-walk l = 2 * l.n + 1

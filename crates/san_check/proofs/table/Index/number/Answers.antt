@@ -2,7 +2,7 @@ use Rattle.std.proofs.Common.{ℕ, Option, sym, ap, ◌∙◌, min}
 use Rattle.std.specs.Prelude.{unwrap_or}
 use Rattle.std.specs.Str.{bytes_eq}
 use Rattle.san_check.specs.Tables.{Table}
-use Rattle.san_check.specs.Nodes.{number}
+use Rattle.san_check.specs.build.Composition.{number}
 use Rattle.san_check.proofs.TableLemmas.{position_seen}
 use Rattle.san_check.proofs.table.Index.number.Goals as goal
 

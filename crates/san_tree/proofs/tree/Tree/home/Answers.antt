@@ -3,10 +3,6 @@ use Rattle.san_tree.specs.Places.{climb, chain}
 use Rattle.san_tree.proofs.ClimbLemmas.{home-settled}
 use Rattle.san_tree.proofs.tree.Tree.home.Goals as goal
 
-pub returns-clause-depth : goal.returns-clause-depth
-returns-clause-depth c =
-    (home-settled _ _ _ _ _ _ (ap (λ nodes. climb c.args.place (chain nodes c.args.self.now.root c.args.path.now [])) (sym c.as_slice.ensures) ∙ c.climb.ensures.way [])).0
-
-pub returns-clause-place : goal.returns-clause-place
-returns-clause-place c =
-    (home-settled _ _ _ _ _ _ (ap (λ nodes. climb c.args.place (chain nodes c.args.self.now.root c.args.path.now [])) (sym c.as_slice.ensures) ∙ c.climb.ensures.way [])).1
+pub returns : goal.returns
+returns c =
+    home-settled _ _ _ _ _ _ (ap (λ nodes. climb c.args.place (chain nodes c.args.self.now.root c.args.path.now [])) (sym c.as_slice.ensures) ∙ c.climb.ensures.way [])

@@ -1,7 +1,0 @@
-use Rattle.std.proofs.Common.{◌≡◌, drop}
-use Rattle.san_check.specs.Entries.{seen_all}
-use Rattle.san_check.specs.Expressions.{stmts_entries}
-use Rattle.san_check.proofs.exprs.+blocks.Given as goal
-
-abbrev pub invariant-walk_stmts-stmts : goal.invariant-walk_stmts-stmts
-invariant-walk_stmts-stmts l = seen_all l.walk (stmts_entries l.places (drop l.stmt-index l.body)) ≡ seen_all l.fn.walk (stmts_entries l.places l.body)

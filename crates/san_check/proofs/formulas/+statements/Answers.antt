@@ -1,7 +1,0 @@
-use Rattle.san_check.specs.Formulas.{stmt_of}
-use Rattle.san_check.proofs.LoopLemmas.{map_turn}
-use Rattle.san_check.proofs.formulas.+statements.Goals as goal
-
-pub stmts_of-stmts-preserved : goal.stmts_of-stmts-preserved
-stmts_of-stmts-preserved t c =
-    map_turn (stmt_of c.args.cells.now) c.args.body.now c.stmts.stmt-index c.stmt-item.result c.stmts.made.items c.push.new.self.items c.in_ok-next.next c.stmts-test.true c.stmt-item.is c.in_ok-push.ensures.items c.in_ok-next.ensures c.stmts.invariant

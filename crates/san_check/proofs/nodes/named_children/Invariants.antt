@@ -1,6 +1,0 @@
-use Rattle.std.proofs.Common.{◌≡◌, ◌++◌, drop, map}
-use Rattle.san_check.specs.Nodes.{child_of}
-use Rattle.san_check.proofs.nodes.named_children.Given as goal
-
-abbrev pub invariant-children : goal.invariant-children
-invariant-children l = l.found.items ++ map (child_of l.models) (drop l.child-index l.children) ≡ map (child_of l.models) l.children

@@ -1,6 +1,0 @@
-use Rattle.std.proofs.Common.{◌≡◌, ◌++◌, drop, map}
-use Rattle.san_check.specs.Nodes.{part_numbers}
-use Rattle.san_check.proofs.nodes.parts_of.Given as goal
-
-abbrev pub invariant-parts : goal.invariant-parts
-invariant-parts l = l.found.items ++ map (part_numbers l.children) (drop l.part-index l.parts) ≡ map (part_numbers l.children) l.parts

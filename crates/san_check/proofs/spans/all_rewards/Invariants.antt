@@ -1,6 +1,0 @@
-use Rattle.std.proofs.Common.{◌≡◌, ◌++◌, drop, map}
-use Rattle.san_check.specs.Spans.{reward_of}
-use Rattle.san_check.proofs.spans.all_rewards.Given as goal
-
-abbrev pub invariant-rewards : goal.invariant-rewards
-invariant-rewards l = l.made.items ++ map (reward_of l.atomics) (drop l.decl-index l.decls) ≡ map (reward_of l.atomics) l.decls

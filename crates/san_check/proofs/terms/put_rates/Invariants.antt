@@ -1,6 +1,0 @@
-use Rattle.std.proofs.Common.{◌≡◌, ◌++◌, drop}
-use Rattle.san_check.specs.Terms.{rates_in}
-use Rattle.san_check.proofs.terms.put_rates.Given as goal
-
-abbrev pub invariant-terms : goal.invariant-terms
-invariant-terms l = l.rates.items ++ rates_in l.cells l.reward (drop l.term-index l.terms) ≡ l.fn.rates.items ++ rates_in l.cells l.reward l.terms

@@ -1,0 +1,5 @@
+pub mod AskLemmas
+pub mod ClockLemmas
+pub mod RenewalLemmas
+pub mod RenewLemmas
+pub mod RowLemmas

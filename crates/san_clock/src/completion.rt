@@ -1,0 +1,46 @@
+//! The completion of a leaf's activity with its next case draw.
+
+ghost use Rattle.std.specs.Prelude.{◌≡◌, ◌≤◌, ◌<◌, ◌+◌, ◌*◌, ◌^◌, Some, length, slice_get, slice_index};
+ghost use Rattle.san_clock.specs.Rows.{counted_by};
+ghost use Rattle.san_draw.specs.Key.{draw_of};
+ghost use Rattle.san_expr.specs.Meets.{Meets};
+ghost use Rattle.san_net.specs.Accepted.{IsAccepted};
+ghost use Rattle.san_net.specs.Completion.{completion_of};
+ghost use Rattle.san_net.specs.Instants.{Named};
+
+use crate::row::Row;
+use san_base::{MAX_ACTS, Trap};
+use san_draw::DrawSource;
+use san_expr::Cells;
+use san_net::{Part, complete};
+
+/// Completes an activity of a leaf over a view of its cells, with its next case draw: its case.
+/// After a trap the view holds the assignments made before it, and the row is as it was.
+pub fn complete_act<V: Cells, D: DrawSource>(
+    draws: &mut D,
+    part: &Part,
+    act: u32,
+    row: &mut Row,
+    view: &mut V,
+) -> Result<u32, Trap>
+    requires accepted { IsAccepted part.now.atomic }
+    requires cells { (V.sight view.old).places ≡ length part.now.atomic.initial }
+    requires act { act < length part.now.atomic.acts }
+    requires cases { length row.old.cases ≡ length part.now.atomic.acts }
+    requires streams { 2 * (part.now.first.0 + length part.now.atomic.acts) ≤ D.streams draws.old }
+    requires small { part.now.first.0 + length part.now.atomic.acts ≤ MAX_ACTS }
+    requires number { slice_index row.old.cases act + 1 < 2 ^ 40 }
+    ensures done { (a : Named) → slice_get part.now.atomic.acts act ≡ Some a → Meets (V.sight
+        view.old) (V.sight view.new) (completion_of (draw_of (D.seed draws.old) (2
+        * (part.now.first.0 + act) + 1) (slice_index row.old.cases act)) a.1) result }
+    ensures row { row.new ≡ counted_by result row.old act }
+    ensures draws { draws.new ≡ draws.old }
+{
+    let u = draws.draw(2 * (part.first.0 + act) + 1, row.next_case(act));
+    let acts = part.atomic.get().acts.as_slice();
+    let case = complete(&acts[act as usize].1, u, view);
+    if case.is_ok() {
+        row.count_case(act);
+    }
+    case
+}

@@ -1,5 +1,0 @@
-use Rattle.std.proofs.Common.{◌≡◌, take}
-use Rattle.san_flat.proofs.flattening.rewards_of.Given as goal
-
-abbrev pub invariant-rewards : goal.invariant-rewards
-invariant-rewards l = l.copies.items ≡ take l.reward-index l.rewards

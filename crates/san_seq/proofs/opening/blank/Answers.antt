@@ -1,5 +1,0 @@
-use Rattle.san_seq.proofs.OpeningLemmas.{blank_is}
-use Rattle.san_seq.proofs.opening.blank.Goals as goal
-
-pub returns : goal.returns
-returns c = blank_is c.args.acts c.in_ok-timers.timers.items c.in_ok-delays.delays.items c.in_ok-cases.cases.items c.in_ok-timers.ensures c.in_ok-delays.ensures c.in_ok-cases.ensures

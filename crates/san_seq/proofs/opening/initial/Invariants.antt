@@ -1,5 +1,0 @@
-use Rattle.std.proofs.Common.{◌≡◌, take}
-use Rattle.san_seq.proofs.opening.initial.Given as goal
-
-abbrev pub invariant-places : goal.invariant-places
-invariant-places l = l.marking.items ≡ take l.k l.flat.initial

@@ -1,6 +1,0 @@
-use Rattle.std.proofs.Common.{◌≡◌}
-use Rattle.san_law.specs.State.{repeated}
-use Rattle.san_seq.proofs.opening.undrawn.Given as goal
-
-abbrev pub invariant-acts : goal.invariant-acts
-invariant-acts l = l.numbers.items ≡ repeated l.k 0

@@ -1,0 +1,24 @@
+use Rattle.std.proofs.Common.{arith, ◌∙◌, ap, replicate, true, ℕ}
+use Rattle.san_draw.specs.Key.{draw_of}
+use Rattle.san_seq.specs.Overs.{limits_in}
+use Rattle.san_seq.proofs.KnownLemmas.{all_are_stale}
+use Rattle.san_seq.proofs.OpenLemmas.{begun_is, state_is, state_runs}
+use Rattle.san_seq.proofs.seq.Seq.open.Goals as goal
+
+pub invariant_of-result : goal.invariant_of-result
+invariant_of-result c =
+    let many = ap (λ s. s.streams) c.in_ok-streams.ensures in
+    record {
+      range = c.requires;
+      draws = omega (arith, many, c.acts.ensures);
+      going = (
+        state_runs c.args.flat.now c.args.limits c.in_ok-marking.marking.items c.in_ok-stable.stable.items c.in_ok-blanks.field-0.items c.in_ok-marking.ensures c.in_ok-stable.ensures c.in_ok-blanks.ensures,
+        all_are_stale c.args.flat.now (draw_of c.in_ok-streams.streams.seed) c.in_ok-stale.stale _ (c.in_ok-stale.ensures ∙ ap (λ (k : ℕ). replicate k true) c.leaves.ensures),
+      );
+    }
+
+pub returns : goal.returns
+returns c =
+    begun_is c.args.flat.now c.args.limits c.in_ok-streams.streams.seed c.args.seed _
+    (ap (λ s. s.seed) c.in_ok-streams.ensures)
+    (state_is c.args.flat.now (draw_of c.args.seed) (limits_in c.args.limits) c.in_ok-marking.marking.items c.in_ok-stable.stable.items c.in_ok-blanks.field-0.items c.in_ok-marking.ensures c.in_ok-stable.ensures c.in_ok-blanks.ensures)

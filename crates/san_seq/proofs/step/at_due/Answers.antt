@@ -1,0 +1,97 @@
+use Rattle.std.proofs.Common.{arith, refl, ◌∙◌, ◌+◌, ◌<◌, ◌≡◌, sym, ap, subst, ℕ, length, Some}
+use Rattle.san_draw.specs.Key.{draw_of}
+use Rattle.san_law.specs.State.{State}
+use Rattle.san_law.specs.Step.{at_due, fire}
+use Rattle.san_net.specs.Network.{net_of}
+use Rattle.san_seq.specs.inner.Dues.{due_in}
+use Rattle.san_seq.specs.Overs.{limits_in}
+use Rattle.san_seq.specs.inner.Running.{IsDrawn}
+use Rattle.san_seq.proofs.KnownLemmas.{fire_sized, if_told, timed_known}
+use Rattle.san_seq.proofs.RunningLemmas.{counted_small, fired_drawn}
+use Rattle.san_seq.proofs.SteppingLemmas.{due_fires, steps_like, timed_runs}
+use Rattle.san_seq.proofs.step.at_due.Goals as goal
+
+pub complete_timed-answer-requires-clause-sized : goal.complete_timed-answer-requires-clause-sized
+complete_timed-answer-requires-clause-sized c =
+    let net = net_of c.args.flat.now (draw_of c.args.streams.now.seed) (limits_in c.args.limits.now) in
+    (subst (IsDrawn c.args.flat.now c.args.limits.now (c.args.state.count + 1)) (sym (c.fire-then.ensures.fired net))
+    (fired_drawn net c.args.flat.now c.args.limits.now (c.args.state.count + 1) c.args.state (due_in c.args.due) c.requires.drawn c.requires.leaf c.if-due-limits.true)).marking
+
+pub complete_timed-answer-requires-clause-rows : goal.complete_timed-answer-requires-clause-rows
+complete_timed-answer-requires-clause-rows c =
+    let net = net_of c.args.flat.now (draw_of c.args.streams.now.seed) (limits_in c.args.limits.now) in
+    (subst (IsDrawn c.args.flat.now c.args.limits.now (c.args.state.count + 1)) (sym (c.fire-then.ensures.fired net))
+    (fired_drawn net c.args.flat.now c.args.limits.now (c.args.state.count + 1) c.args.state (due_in c.args.due) c.requires.drawn c.requires.leaf c.if-due-limits.true)).rows
+
+pub complete_timed-answer-requires-clause-number : goal.complete_timed-answer-requires-clause-number
+complete_timed-answer-requires-clause-number c =
+    let net = net_of c.args.flat.now (draw_of c.args.streams.now.seed) (limits_in c.args.limits.now) in
+    let drawn = subst (IsDrawn c.args.flat.now c.args.limits.now (c.args.state.count + 1)) (sym (c.fire-then.ensures.fired net))
+    (fired_drawn net c.args.flat.now c.args.limits.now (c.args.state.count + 1) c.args.state (due_in c.args.due) c.requires.drawn c.requires.leaf c.if-due-limits.true) in
+    omega (arith, counted_small c.fire-then.result.rows c.fire-then.result.count c.args.due.leaf.0 c.args.due.act drawn.cases, drawn.count, c.requires.range.events_in_range)
+
+pub complete_timed-answer-requires-clause-count : goal.complete_timed-answer-requires-clause-count
+complete_timed-answer-requires-clause-count c =
+    let net = net_of c.args.flat.now (draw_of c.args.streams.now.seed) (limits_in c.args.limits.now) in
+    let drawn = subst (IsDrawn c.args.flat.now c.args.limits.now (c.args.state.count + 1)) (sym (c.fire-then.ensures.fired net))
+    (fired_drawn net c.args.flat.now c.args.limits.now (c.args.state.count + 1) c.args.state (due_in c.args.due) c.requires.drawn c.requires.leaf c.if-due-limits.true) in
+    omega (arith, drawn.count, c.requires.range.events_in_range)
+
+pub returns-then-due-limits-clause-steps : goal.returns-then-due-limits-clause-steps
+returns-then-due-limits-clause-steps c = λ s same.
+    let net = net_of c.args.flat.now (draw_of c.args.streams.now.seed) (limits_in c.args.limits.now) in
+    let d = due_in c.args.due in
+    steps_like c.args.flat.now c.complete_timed-answer.result.0 c.complete_timed-answer.result.1 (fire net c.fire-then.result d.leaf d.act) (at_due net s c.args.state.rows (Some d))
+    c.complete_timed-answer.ensures.told
+    c.complete_timed-answer.ensures.left
+    (due_fires net s c.args.state c.fire-then.result d same c.if-due-limits.true (c.fire-then.ensures.fired net))
+
+pub returns-then-due-limits-clause-running : goal.returns-then-due-limits-clause-running
+returns-then-due-limits-clause-running c =
+    let net = net_of c.args.flat.now (draw_of c.args.streams.now.seed) (limits_in c.args.limits.now) in
+    let d = due_in c.args.due in
+    let n = c.args.flat.now in
+    let limits = c.args.limits.now in
+    let count : c.fire-then.result.count ≡ c.args.state.count = ap (λ (x : State). x.count) (c.fire-then.ensures.fired net) in
+    let drawn = subst (IsDrawn n limits (c.args.state.count + 1)) (sym (c.fire-then.ensures.fired net))
+    (fired_drawn net n limits (c.args.state.count + 1) c.args.state d c.requires.drawn c.requires.leaf c.if-due-limits.true) in
+    let drawn_there = subst (λ (m : ℕ). IsDrawn n limits (m + 1) c.fire-then.result) (sym count) drawn in
+    let inside : d.leaf < length c.fire-then.result.rows = omega (arith, c.requires.leaf, c.requires.drawn.rows.each, drawn.rows.each) in
+    timed_runs n (draw_of c.args.streams.now.seed) limits c.fire-then.result c.complete_timed-answer.result.1 d.leaf d.act drawn_there inside c.complete_timed-answer.result.0
+    c.complete_timed-answer.ensures.told
+    c.complete_timed-answer.ensures.left
+
+pub touch-requires-clause-stable : goal.touch-requires-clause-stable
+touch-requires-clause-stable c =
+    let n = c.args.flat.now in
+    let net = net_of n (draw_of c.args.streams.now.seed) (limits_in c.args.limits.now) in
+    let u = c.fire-then.result in
+    let marking = ap (λ (x : State). length x.marking) (c.fire-then.ensures.fired net) ∙ c.requires.drawn.marking in
+    let stable = ap (λ (x : State). length x.stable) (c.fire-then.ensures.fired net) ∙ c.requires.drawn.marking in
+    ap length (c.deref.ensures.value ∙ ap (λ (x : State). x.stable) c.left.view_is) ∙ ap (λ (x : State). length x.stable) c.complete_timed-answer.ensures.left
+    ∙ (fire_sized net u c.args.due.leaf.0 c.args.due.act (length n.initial) marking stable).1
+
+pub touch-requires-clause-marking : goal.touch-requires-clause-marking
+touch-requires-clause-marking c =
+    let n = c.args.flat.now in
+    let net = net_of n (draw_of c.args.streams.now.seed) (limits_in c.args.limits.now) in
+    let u = c.fire-then.result in
+    let marking = ap (λ (x : State). length x.marking) (c.fire-then.ensures.fired net) ∙ c.requires.drawn.marking in
+    let stable = ap (λ (x : State). length x.stable) (c.fire-then.ensures.fired net) ∙ c.requires.drawn.marking in
+    ap length (c.deref-then-due-limits.ensures.value ∙ ap (λ (x : State). x.marking) c.left.view_is) ∙ ap (λ (x : State). length x.marking) c.complete_timed-answer.ensures.left
+    ∙ (fire_sized net u c.args.due.leaf.0 c.args.due.act (length n.initial) marking stable).0
+
+pub returns-then-due-limits-clause-known : goal.returns-then-due-limits-clause-known
+returns-then-due-limits-clause-known c =
+    let n = c.args.flat.now in
+    let draw = draw_of c.args.streams.now.seed in
+    let bounds = limits_in c.args.limits.now in
+    let net = net_of n draw bounds in
+    let d = due_in c.args.due in
+    let u = c.fire-then.result in
+    let v = c.complete_timed-answer.result.1 in
+    if_told c.complete_timed-answer.result.0 n (fire net u d.leaf d.act).0 _ c.complete_timed-answer.ensures.told
+    (λ t e. timed_known n draw bounds c.is_network.ensures.laid d.leaf d.act (omega (arith, c.requires.leaf, c.requires.drawn.rows.each)) v c.deref.result.now c.deref-then-due-limits.result.now c.fire-then.new.stale c.touch.new.stale
+    (c.deref.ensures.value ∙ ap (λ (x : State). x.stable) c.left.view_is) (c.deref-then-due-limits.ensures.value ∙ ap (λ (x : State). x.marking) c.left.view_is)
+    (c.fire-then.ensures.flags ∙ c.requires.flags) c.touch.ensures.own c.touch.ensures.touched
+    c.args.state d u t refl c.requires.drawn.marking (c.fire-then.ensures.fired net) c.requires.quiet c.complete_timed-answer.ensures.left e)

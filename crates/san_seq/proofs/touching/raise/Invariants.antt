@@ -1,6 +1,0 @@
-use Rattle.san_seq.specs.Known.{Raised}
-use Rattle.std.proofs.Common.{take}
-use Rattle.san_seq.proofs.touching.raise.Given as goal
-
-abbrev pub invariant-leaves : goal.invariant-leaves
-invariant-leaves l = Raised (take l.k l.leaves) l.fn.stale l.stale

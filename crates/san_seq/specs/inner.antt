@@ -1,0 +1,11 @@
+pub mod Completions
+pub mod Dues
+pub mod Held
+pub mod Known
+pub mod Nexts
+pub mod Openings
+pub mod Renewals
+pub mod Rows
+pub mod Running
+pub mod States
+pub mod Views

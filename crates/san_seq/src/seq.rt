@@ -1,0 +1,232 @@
+//! The sequential run of a network.
+
+ghost use Rattle.std.specs.Prelude.{◌≡◌, ℕ, IfOk, Some};
+ghost use Rattle.san_base.specs.Limits.{IsInRange};
+ghost use Rattle.san_draw.specs.Key.{draw_of};
+ghost use Rattle.san_net.specs.Network.{net_of};
+ghost use Rattle.san_seq.specs.FlatRun as run;
+ghost use Rattle.san_seq.specs.inner.Held as held;
+ghost use Rattle.san_seq.specs.inner.Nexts.{next_in};
+ghost use Rattle.san_seq.specs.Overs.{limits_in};
+ghost use Rattle.san_seq.specs.Telling.{stepped_of};
+
+use crate::next::Next;
+use crate::opening::{blanks, tables};
+use crate::state::State;
+use crate::step::{next_of, step};
+use crate::steps::{Stable, Stepped, Trajectory};
+use san_base::{Ending, Event, Items, Limits, NoMemory, Tick};
+use san_delay::DelayTables;
+use san_draw::Streams;
+use san_net::Flat;
+use san_winner::Flags;
+use std::alloc::Global;
+use std::marker::Model;
+
+/// Where a run is: it goes on from a state, or is over with the marking that it left.
+#[derive(Drop)]
+pub(crate) enum Phase {
+    Running(State),
+    Ended(Vec<u32>, Ending),
+}
+
+/// A run of a network, one step after another. All of its memory is taken by `open`.
+#[derive(Drop)]
+pub struct Seq<'a> {
+    flat: &'a Flat,
+    tables: DelayTables,
+    streams: Streams,
+    limits: Limits,
+    /// For each leaf whether it may have to be looked at in the next step.
+    stale: Flags,
+    /// Nothing while a step is taken.
+    phase: Option<Phase>,
+}
+
+impl<'a> Model for Seq<'a> {
+    ghost use Rattle.san_seq.specs.FlatRun.{Run, going_of};
+    ghost use Rattle.san_seq.specs.inner.Held.{IsHeld};
+    ghost use Rattle.san_net.specs.contracts.part.Part as of_part;
+    ghost use Rattle.std.specs.Coded.{codes};
+
+    ghost Value = { Run };
+
+    ghost coded = { Prim.hlevel (codes, of_part.the_row.coded) };
+
+    ghost view = { λ r. record { network = r.flat.now; seed = r.streams.seed; limits = r.limits; going = going_of r.phase } };
+
+    ghost invariant = { λ r. IsHeld r.flat.now r.limits r.streams.streams r.streams.seed
+        r.stale r.phase };
+}
+
+/// What a step answers, and where the run is after it.
+fn stepped(
+    flat: &Flat,
+    tables: &DelayTables,
+    streams: &mut Streams,
+    limits: &Limits,
+    stale: &mut Flags,
+    phase: Phase,
+) -> (Result<Event, Ending>, Phase)
+    requires run { held.IsRun flat.now limits.now streams.old.streams streams.old.seed
+        stale.old (run.going_in phase) }
+    ensures step { (result.0, run.going_in result.1)
+        ≡ run.stepped flat.now (net_of flat.now (draw_of streams.old.seed) (limits_in limits.now))
+        (run.going_in phase) }
+    ensures run { held.IsRun flat.now limits.now streams.old.streams streams.old.seed
+        stale.new (run.going_in result.1) }
+    ensures streams { streams.new ≡ streams.old }
+{
+    match phase {
+        Phase::Running(state) => {
+            let (answer, left) = step(flat, tables, streams, limits, stale, state);
+            match answer {
+                Ok(event) => (Ok(event), Phase::Running(left)),
+                Err(ending) => (Err(ending), Phase::Ended(left.marking, ending)),
+            }
+        }
+        Phase::Ended(marking, ending) => (Err(ending), Phase::Ended(marking, ending)),
+    }
+}
+
+/// Where a state is stable, by what completes next in it.
+fn where_stable(next: Next, state: &State) -> Option<Stable>
+    ensures { result ≡ run.where_stable (next_in next) state.now }
+{
+    match next {
+        Next::Stable => Some(Stable {
+            time: Tick(state.time),
+            count: state.count,
+        }),
+        Next::Completes(_, _) | Next::Traps(_, _, _) => None,
+    }
+}
+
+/// Where a phase of a run is stable.
+fn stable_at(flat: &Flat, stale: &Flags, limits: &Limits, phase: &Phase) -> Option<Stable>
+    requires { (streams seed : ℕ) × held.IsRun flat.now limits.now streams seed stale.now
+        (run.going_in phase.now) }
+    ensures { (draw : ℕ → ℕ → ℕ) → result
+        ≡ run.stable_in (net_of flat.now draw (limits_in limits.now)) (run.going_in phase.now) }
+{
+    match phase {
+        Phase::Running(state) => where_stable(next_of(flat, stale, state), state),
+        Phase::Ended(_, _) => None,
+    }
+}
+
+/// What an event, or an ending, is as a step.
+fn stepped_of(answer: Result<Event, Ending>) -> Stepped
+    ensures { result ≡ stepped_of answer }
+{
+    match answer {
+        Ok(event) => Stepped::Event(event),
+        Err(Ending::End(_)) => Stepped::End,
+        Err(Ending::Stop(stop)) => Stepped::Stopped(stop),
+    }
+}
+
+impl<'a> Seq<'a> {
+    /// Takes all memory of a run, which begins with the network's initial marking at time 0.
+    pub fn open(
+        alloc: Global,
+        flat: &'a Flat,
+        seed: u64,
+        limits: Limits,
+    ) -> Result<Seq<'a>, NoMemory>
+        requires { IsInRange limits }
+        ensures { IfOk result (λ r. r ≡ run.opening flat.now seed limits) }
+    {
+        flat.is_network();
+        let tables = tables(alloc, flat)?;
+        let streams = Streams::open(alloc, seed, 2 * flat.acts())?;
+        let marking = flat.initial_marking(alloc)?;
+        let stable = flat.initial_marking(alloc)?;
+        let state = State {
+            time: 0,
+            marking,
+            stable,
+            rows: blanks(alloc, flat)?,
+            burst: 0,
+            last: None,
+            count: 0,
+        };
+        let stale = Flags::open(alloc, flat.leaves() as usize)?;
+        Ok(Seq {
+            flat,
+            tables,
+            streams,
+            limits,
+            stale,
+            phase: Some(Phase::Running(state)),
+        })
+    }
+
+    /// The next event, or the ending.
+    fn answer(&mut self) -> Result<Event, Ending>
+        ensures told { result ≡ (run.step_of self.old).0 }
+        ensures left { self.new ≡ run.after_step self.old }
+    {
+        match self.phase.take() {
+            Some(phase) => {
+                let (answer, left) = stepped(
+                    self.flat,
+                    &self.tables,
+                    &mut self.streams,
+                    &self.limits,
+                    &mut self.stale,
+                    phase,
+                );
+                self.phase = Some(left);
+                answer
+            }
+            None => unreachable!(),
+        }
+    }
+
+    /// One step (own rules): the next instantaneous activity completes; where there is none, the
+    /// timers are renewed and the one that is due first completes. Once the run is over, the same
+    /// again.
+    pub fn step(&mut self) -> Stepped
+        ensures told { result ≡ stepped_of (run.step_of self.old).0 }
+        ensures left { self.new ≡ run.after_step self.old }
+    {
+        stepped_of(self.answer())
+    }
+
+    /// The time and the number of events, where no instantaneous activity is enabled or traps in
+    /// the present marking, so that the next step renews the timers. A run that is over isn't
+    /// stable.
+    pub fn stable(&self) -> Option<Stable>
+        ensures { result ≡ run.stable_of self.now }
+    {
+        match &self.phase {
+            Some(phase) => stable_at(self.flat, &self.stale, &self.limits, phase),
+            None => unreachable!(),
+        }
+    }
+
+    /// The values of the places, by their numbers.
+    pub fn marking(&self) -> &[u32]
+        ensures { result.now ≡ run.marking_of self.now.going }
+    {
+        match &self.phase {
+            Some(Phase::Running(state)) => state.marking.as_slice(),
+            Some(Phase::Ended(marking, _)) => marking.as_slice(),
+            None => unreachable!(),
+        }
+    }
+
+    /// All the events from here on, and the ending.
+    pub fn run_all(mut self, alloc: Global) -> Result<Trajectory, NoMemory>
+        ensures { IfOk result (λ t. Some t ≡ run.rest_of self.entry) }
+    {
+        let mut events = Items::new(alloc);
+        'steps: loop {
+            match self.answer() {
+                Ok(event) => events.push(event)?,
+                Err(ending) => return Ok(Trajectory { events, ending }),
+            }
+        }
+    }
+}

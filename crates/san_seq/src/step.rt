@@ -1,0 +1,196 @@
+//! One step of a run.
+
+ghost use Rattle.std.specs.Prelude.{◌≡◌, ◌≤◌, ◌<◌, ◌+◌, ◌*◌, ◌^◌, ℕ, length, Some, IfOk};
+ghost use Rattle.std.specs.Option.{option_map};
+ghost use Rattle.san_draw.specs.Key.{draw_of};
+ghost use Rattle.san_law.specs.Next as law;
+ghost use Rattle.san_law.specs.Network.{Limits as Bounds};
+ghost use Rattle.san_law.specs.Renewal.{renewed_from};
+ghost use Rattle.san_law.specs.State as law_state;
+ghost use Rattle.san_law.specs.Step as law_step;
+ghost use Rattle.san_net.specs.Laid.{acts_of};
+ghost use Rattle.san_net.specs.Network.{net_of};
+ghost use Rattle.san_base.specs.Limits.{IsInRange};
+ghost use Rattle.san_seq.specs.inner.Dues.{due_in};
+ghost use Rattle.san_seq.specs.inner.Known.{AreFresh, AreIdle, AreQuiet, AreSettled, HaveNothing, HaveSame};
+ghost use Rattle.san_seq.specs.inner.Nexts.{next_in};
+ghost use Rattle.san_seq.specs.Overs.{limits_in};
+ghost use Rattle.san_seq.specs.inner.Rows.{AreDrawn, AreRows, IsLike, renewal_by, row_at};
+ghost use Rattle.san_seq.specs.inner.Running.{IsDrawn, IsRunning, Steps, with_rows};
+
+use crate::due::{Due, least_due};
+use crate::fire::fire;
+use crate::limits::{complete_instant, complete_timed};
+use crate::next::{Next, next_instant};
+use crate::renewal::{Markings, renew_rows};
+use crate::stale::touch;
+use crate::state::{State, trapped};
+use san_base::{Ending, Event, LeafId, Limits, Trap};
+use san_delay::DelayTables;
+use san_draw::Streams;
+use san_net::Flat;
+use san_winner::Flags;
+
+/// Which instantaneous activity completes next in a state.
+pub(crate) fn next_of(flat: &Flat, stale: &Flags, state: &State) -> Next
+    requires flags { length stale.now ≡ length flat.now.parts }
+    requires idle { HaveNothing flat.now.parts stale.now state.now.marking }
+    requires last { (j : ℕ) → state.now.last ≡ Some j → j < length flat.now.parts }
+    requires sized { length state.now.marking ≡ length flat.now.initial }
+    ensures { (draw : ℕ → ℕ → ℕ) (bounds : Bounds) → next_in result
+        ≡ law.next_instant (net_of flat.now draw bounds) state.now }
+{
+    flat.is_network();
+    next_instant(flat, state.last, stale, &state.marking)
+}
+
+/// The state with all timers renewed, or up to the first trap.
+fn renew(
+    flat: &Flat,
+    tables: &DelayTables,
+    streams: &mut Streams,
+    stale: &Flags,
+    state: State,
+) -> (Result<(), (LeafId, u32, Trap)>, State)
+    requires sized { length state.marking ≡ length flat.now.initial }
+    requires stable { length state.stable ≡ length flat.now.initial }
+    requires rows { AreRows flat.now.parts state.rows }
+    requires streams { 2 * acts_of flat.now.parts ≤ streams.old.streams }
+    requires flags { length stale.now ≡ length flat.now.parts }
+    requires idle { AreFresh (draw_of streams.old.seed) flat.now.parts stale.now state.time
+        state.stable state.marking state.rows }
+    requires numbers { AreDrawn state.count state.rows }
+    requires count { state.count < 2 ^ 30 }
+    requires time { state.time < 2 ^ 62 }
+    ensures rows { (bounds : Bounds) → renewal_by result.0 result.1.rows
+        ≡ renewed_from (net_of flat.now (draw_of streams.old.seed) bounds) state 0 state.rows }
+    ensures left { result.1 ≡ with_rows result.1.rows state }
+    ensures numbers { AreDrawn (state.count + 1) result.1.rows }
+    ensures sized { length result.1.rows ≡ length state.rows }
+    ensures like { (j : ℕ) → IsLike (row_at result.1.rows j) (row_at state.rows j) }
+    ensures streams { streams.new ≡ streams.old }
+{
+    let mut rows = state.rows;
+    let markings = Markings {
+        stable: state.stable.as_slice(),
+        present: state.marking.as_slice(),
+    };
+    let done = renew_rows(
+        flat,
+        tables,
+        streams,
+        state.time,
+        stale,
+        &markings,
+        rows.as_mut_slice(),
+    );
+    (done, State { rows, ..state })
+}
+
+/// The activity of a timer completes where it is due by the horizon, else the run ends there.
+fn at_due(
+    flat: &Flat,
+    streams: &mut Streams,
+    limits: &Limits,
+    stale: &mut Flags,
+    due: Due,
+    state: State,
+) -> (Result<Event, Ending>, State)
+    requires range { IsInRange limits.now }
+    requires drawn { IsDrawn flat.now limits.now (state.count + 1) state }
+    requires leaf { due.leaf.0 < length state.rows }
+    requires act { due.act < length (row_at state.rows due.leaf.0).timers }
+    requires flags { length stale.old ≡ length flat.now.parts }
+    requires same { HaveSame flat.now.parts stale.old state.stable state.marking }
+    requires quiet { AreQuiet (draw_of streams.old.seed) flat.now.parts state.marking state.rows }
+    requires streams { 2 * acts_of flat.now.parts ≤ streams.old.streams }
+    ensures steps { (s : law_state.State) → with_rows state.rows s ≡ state → Steps flat.now result.0 result.1
+        (law_step.at_due (net_of flat.now (draw_of streams.old.seed) (limits_in limits.now)) s
+        state.rows (Some (due_in due))) }
+    ensures running { IfOk result.0 (λ e. IsRunning flat.now limits.now result.1) }
+    ensures known { IfOk result.0 (λ e. AreIdle flat.now (draw_of streams.old.seed) stale.new
+        result.1) }
+    ensures streams { streams.new ≡ streams.old }
+{
+    flat.is_network();
+    if due.time <= limits.horizon.0 {
+        let then = fire(flat, stale, due, state);
+        let (answer, left) = complete_timed(flat, streams, limits, due.leaf, due.act, then);
+        touch(flat, due.leaf, &left.stable, &left.marking, stale);
+        (answer, left)
+    } else {
+        (Err(Ending::End(limits.horizon)), state)
+    }
+}
+
+/// All timers are renewed, and the activity of the one that is due first completes.
+fn at_rest(
+    flat: &Flat,
+    tables: &DelayTables,
+    streams: &mut Streams,
+    limits: &Limits,
+    stale: &mut Flags,
+    state: State,
+) -> (Result<Event, Ending>, State)
+    requires range { IsInRange limits.now }
+    requires running { IsRunning flat.now limits.now state }
+    requires known { AreIdle flat.now (draw_of streams.old.seed) stale.old state }
+    requires settled { AreSettled flat.now.parts state.marking }
+    requires streams { 2 * acts_of flat.now.parts ≤ streams.old.streams }
+    ensures steps { Steps flat.now result.0 result.1 (law_step.at_next (net_of flat.now
+        (draw_of streams.old.seed) (limits_in limits.now)) state law.Stable) }
+    ensures running { IfOk result.0 (λ e. IsRunning flat.now limits.now result.1) }
+    ensures known { IfOk result.0 (λ e. AreIdle flat.now (draw_of streams.old.seed) stale.new
+        result.1) }
+    ensures streams { streams.new ≡ streams.old }
+{
+    flat.is_network();
+    let (done, left) = renew(flat, tables, streams, stale, state);
+    match done {
+        Ok(()) => match least_due(left.rows.as_slice()) {
+            Some(due) => at_due(flat, streams, limits, stale, due, left),
+            None => (Err(Ending::End(limits.horizon)), left),
+        },
+        Err((leaf, act, trap)) => {
+            let ending = trapped(flat, left.time, leaf, act, trap);
+            (Err(ending), left)
+        }
+    }
+}
+
+/// One step of a run (own rules): the next instantaneous activity completes; where there is none,
+/// the timers are renewed and the one that is due first completes. When the run is over, its
+/// marking is left.
+pub(crate) fn step(
+    flat: &Flat,
+    tables: &DelayTables,
+    streams: &mut Streams,
+    limits: &Limits,
+    stale: &mut Flags,
+    state: State,
+) -> (Result<Event, Ending>, State)
+    requires range { IsInRange limits.now }
+    requires running { IsRunning flat.now limits.now state }
+    requires known { AreIdle flat.now (draw_of streams.old.seed) stale.old state }
+    requires streams { 2 * acts_of flat.now.parts ≤ streams.old.streams }
+    ensures steps { Steps flat.now result.0 result.1 (law_step.step (net_of flat.now
+        (draw_of streams.old.seed) (limits_in limits.now)) state) }
+    ensures running { IfOk result.0 (λ e. IsRunning flat.now limits.now result.1) }
+    ensures known { IfOk result.0 (λ e. AreIdle flat.now (draw_of streams.old.seed) stale.new
+        result.1) }
+    ensures streams { streams.new ≡ streams.old }
+{
+    flat.is_network();
+    match next_of(flat, stale, &state) {
+        Next::Stable => at_rest(flat, tables, streams, limits, stale, state),
+        Next::Completes(leaf, act) => {
+            let (answer, left) = complete_instant(flat, streams, limits, leaf, act, state);
+            touch(flat, leaf, &left.stable, &left.marking, stale);
+            (answer, left)
+        }
+        Next::Traps(leaf, act, trap) => {
+            let ending = trapped(flat, state.time, leaf, act, trap);
+            (Err(ending), state)
+        }
+    }
+}

@@ -1,8 +1,0 @@
-use Rattle.std.proofs.Common.{◌≡◌, ◌-◌, take, length}
-use Rattle.san_text.proofs.same.all_same.Given as goal
-
-abbrev pub invariant-next : goal.invariant-next
-invariant-next g l = take l.at l.a ≡ take l.at l.b
-
-abbrev pub decreases-next : goal.decreases-next
-decreases-next g l = length l.a - l.at

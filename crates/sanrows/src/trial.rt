@@ -1,0 +1,300 @@
+//! All calls that a row names, each in all of its settings, and what of them is otherwise than the
+//! row says.
+
+use crate::call::{Call, Ran, SPARE_BYTES, Side};
+use crate::row::Row;
+use crate::setting::{are_known, numbers};
+use san_base::NoMemory;
+use std::alloc::Global;
+
+/// The room of a sink whose output is told by its end alone, in bytes.
+const LONG_OUTPUT: usize = 1_048_576;
+
+/// What of a row doesn't come true.
+type Fault = &'static str;
+
+/// The status of a call whose words aren't taken.
+const WORDS: u8 = 2;
+
+/// What a row's calls must come to.
+#[derive(Clone, Copy)]
+struct Wanted<'a> {
+    status: u8,
+    output: &'a [u8],
+    /// The output ends so.
+    ends: bool,
+    notes: &'a [u8],
+    /// The notes begin so.
+    begins: bool,
+}
+
+/// The output up to a put that fails: a prefix, of no more bytes than the puts before it moved.
+fn is_prefix_to(output: &[u8], wanted: &[u8], call: u64, bytes: u64) -> bool {
+    wanted.starts_with(output) && output.len() as u64 <= call.saturating_mul(bytes)
+}
+
+impl<'a> Wanted<'a> {
+    fn has_output(&self, call: &Call<'_>, ran: &Ran) -> bool {
+        let output = ran.output.as_slice();
+        match call.failing {
+            Some((Side::Sink, at)) => is_prefix_to(output, self.output, at, call.bytes),
+            _ if self.ends => output.ends_with(self.output),
+            _ => output == self.output,
+        }
+    }
+
+    fn has_notes(&self, call: &Call<'_>, ran: &Ran) -> bool {
+        let notes = ran.notes.as_slice();
+        match call.failing {
+            Some((Side::Notes, _)) => self.notes.starts_with(notes),
+            _ if self.begins => notes.starts_with(self.notes),
+            _ => notes == self.notes,
+        }
+    }
+
+    /// What of a call isn't as it must be. Where words aren't taken, nothing is read.
+    fn fault(&self, call: &Call<'_>, ran: &Ran) -> Option<Fault> {
+        if ran.status != self.status {
+            Some("has another status")
+        } else if !self.has_output(call, ran) {
+            Some("has another output")
+        } else if !self.has_notes(call, ran) {
+            Some("has other notes")
+        } else if self.status == WORDS && ran.reads > 0 {
+            Some("reads its source")
+        } else {
+            None
+        }
+    }
+}
+
+/// The values that a row's settings list.
+#[derive(Drop)]
+struct Lists {
+    bytes: Vec<u64>,
+    /// The calls of the outside that fail, one at a time; just none where the row names none.
+    failing: Vec<Option<(Side, u64)>>,
+    /// The lengths of the prefixes of the text; none where the text is taken whole.
+    prefixes: Vec<u64>,
+}
+
+/// The calls of the outside that fail, one at a time.
+fn failing(alloc: Global, row: &Row<'_>) -> Result<Option<Vec<Option<(Side, u64)>>>, NoMemory> {
+    let mut failing = Vec::new(alloc);
+    for (side, setting) in [
+        (Side::Source, "failing-read"),
+        (Side::Sink, "failing-put"),
+        (Side::Notes, "failing-note"),
+    ] {
+        let Some(calls) = numbers(alloc, row, setting, "")? else {
+            return Ok(None);
+        };
+        for call in calls.iter() {
+            failing.push(Some((side, *call)))?;
+        }
+    }
+    if failing.is_empty() {
+        failing.push(None)?;
+    }
+    Ok(Some(failing))
+}
+
+impl Lists {
+    /// None where a setting says no numbers.
+    fn read(alloc: Global, row: &Row<'_>) -> Result<Option<Lists>, NoMemory> {
+        let bytes = numbers(alloc, row, "bytes", "4096")?;
+        let prefixes = numbers(alloc, row, "prefixes", "")?;
+        let failing = failing(alloc, row)?;
+        match (bytes, prefixes, failing) {
+            (Some(bytes), Some(prefixes), Some(failing)) => Ok(Some(Lists {
+                bytes,
+                failing,
+                prefixes,
+            })),
+            _ => Ok(None),
+        }
+    }
+}
+
+/// What a row's calls come to, beside what they must come to.
+#[derive(Drop)]
+struct Trial<'a> {
+    wanted: Wanted<'a>,
+    lists: Lists,
+    /// The output of the first call, to which all others come too.
+    first: Option<Vec<u8>>,
+}
+
+impl<'a> Trial<'a> {
+    /// Whether a call's output is the first call's; of the first itself it is.
+    fn is_the_first(&mut self, output: Vec<u8>) -> bool {
+        match &self.first {
+            Some(first) => first.as_slice() == output.as_slice(),
+            None => {
+                self.first = Some(output);
+                true
+            }
+        }
+    }
+
+    /// The fault of a call on a text, in each of the lists' settings.
+    fn fault(
+        &mut self,
+        alloc: Global,
+        call: &Call<'_>,
+        text: &[u8],
+    ) -> Result<Option<Fault>, NoMemory> {
+        for bytes in 0..self.lists.bytes.len() {
+            for failing in 0..self.lists.failing.len() {
+                let call = Call {
+                    bytes: self.lists.bytes[bytes],
+                    failing: self.lists.failing[failing],
+                    ..*call
+                };
+                let fault = self.fault_once(alloc, &call, text)?;
+                if fault.is_some() {
+                    return Ok(fault);
+                }
+            }
+        }
+        Ok(None)
+    }
+
+    fn fault_once(
+        &mut self,
+        alloc: Global,
+        call: &Call<'_>,
+        text: &[u8],
+    ) -> Result<Option<Fault>, NoMemory> {
+        let Some(ran) = call.run(alloc, text)? else {
+            return Ok(Some("names an unknown call"));
+        };
+        if let Some(fault) = self.wanted.fault(call, &ran) {
+            return Ok(Some(fault));
+        }
+        if call.failing.is_none() && !self.is_the_first(ran.output) {
+            return Ok(Some("has different outputs"));
+        }
+        Ok(None)
+    }
+
+    /// The fault of the calls that a row names, on a text.
+    fn fault_by_calls(
+        &mut self,
+        alloc: Global,
+        row: &Row<'_>,
+        text: &[u8],
+    ) -> Result<Option<Fault>, NoMemory> {
+        let room = if self.wanted.ends {
+            LONG_OUTPUT
+        } else {
+            self.wanted.output.len().saturating_add(SPARE_BYTES)
+        };
+        for name in row.value("calls").unwrap_or("").split_whitespace() {
+            let words = if name == "show" {
+                "show-words"
+            } else {
+                "words"
+            };
+            let call = Call {
+                name,
+                words: row.value(words).unwrap_or(""),
+                option: None,
+                bytes: 0,
+                failing: None,
+                room,
+            };
+            let fault = self.fault_by_options(alloc, row, &call, text)?;
+            if fault.is_some() {
+                return Ok(fault);
+            }
+        }
+        Ok(None)
+    }
+
+    /// The fault of a call with each value of the option that the row tries, which `run` takes.
+    fn fault_by_options(
+        &mut self,
+        alloc: Global,
+        row: &Row<'_>,
+        call: &Call<'_>,
+        text: &[u8],
+    ) -> Result<Option<Fault>, NoMemory> {
+        let Some((option, values)) = row.value("each").unwrap_or("").split_once(" ") else {
+            return self.fault(alloc, call, text);
+        };
+        if call.name != "run" {
+            return self.fault(alloc, call, text);
+        }
+        for value in values.split_whitespace() {
+            let call = Call {
+                option: Some((option, value)),
+                ..*call
+            };
+            let fault = self.fault(alloc, &call, text)?;
+            if fault.is_some() {
+                return Ok(fault);
+            }
+        }
+        Ok(None)
+    }
+}
+
+/// The bytes of a row's text, or the blanks that stand for it.
+fn text_of(alloc: Global, row: &Row<'_>) -> Result<Vec<u8>, NoMemory> {
+    let blanks = row
+        .value("blanks")
+        .unwrap_or("0")
+        .parse::<u64>()
+        .unwrap_or(0);
+    let mut text = Vec::new(alloc);
+    for _ in 0..blanks {
+        text.push(b' ')?;
+    }
+    let end = match row.value("cut") {
+        Some(_) => row.text.strip_suffix("\n").unwrap_or(row.text),
+        None => row.text,
+    };
+    text.extend_from_slice(end.as_bytes())?;
+    Ok(text)
+}
+
+/// What of a row doesn't come true.
+pub(crate) fn fault_of(alloc: Global, row: &Row<'_>) -> Result<Option<Fault>, NoMemory> {
+    let status = row.value("status").unwrap_or("0").parse::<u8>();
+    let (true, Ok(status), Some(lists)) = (are_known(row), status, Lists::read(alloc, row)?) else {
+        return Ok(Some("has a setting that can't be read"));
+    };
+    if row.value("calls").is_none() {
+        return Ok(Some("names no call"));
+    }
+    let begins = row.value("begins").is_some();
+    let notes = if begins {
+        row.notes.strip_suffix("\n").unwrap_or(row.notes)
+    } else {
+        row.notes
+    };
+    let mut trial = Trial {
+        wanted: Wanted {
+            status,
+            output: row.output.as_bytes(),
+            ends: row.value("ends").is_some(),
+            notes: notes.as_bytes(),
+            begins,
+        },
+        lists,
+        first: None,
+    };
+    let text = text_of(alloc, row)?;
+    if trial.lists.prefixes.is_empty() {
+        return trial.fault_by_calls(alloc, row, text.as_slice());
+    }
+    for at in 0..trial.lists.prefixes.len() {
+        let end = trial.lists.prefixes[at].min(text.len() as u64) as usize;
+        let fault = trial.fault_by_calls(alloc, row, &text[..end])?;
+        if fault.is_some() {
+            return Ok(fault);
+        }
+    }
+    Ok(None)
+}
