@@ -69,7 +69,7 @@ module _ (o : Opened) (es : List law.Event) (s : State) (c : CountedRun) (st : S
   end_is : (time : ℕ) (why : law.Ending) → (law.step net s).0 ≡ law.Over time why → IsEnd o.network net time why
   end_is time why over = ends o.network (draw_of o.seed) (limits_in o.limits) is_lawful s time why (fits_at o.network (draw_of o.seed) (limits_in o.limits) is_lawful es s st.runs) over
 
-  many_spans : length c.account.running.spans ≡ length o.network.rewards
+  pub many_spans : length c.account.running.spans ≡ length o.network.rewards
   many_spans = ap (λ (xs : List Span). length xs) (sym st.counted.is_of.spans) ∙ length-map o.network.rewards (λ r. span_in r.span)
 
   -- what the account says of a reward is its worth
@@ -80,7 +80,7 @@ module _ (o : Opened) (es : List law.Event) (s : State) (c : CountedRun) (st : S
       sym (worth_same net a.running st.counted.is_of r)
       ∙ counted_worth net (opening_state net) s es a.running.time a.running.tally st.runs st.counted.counts (st.counted.rates ∙ rates_law s.marking o.network (draw_of o.seed) (limits_in o.limits)) r inside
 
-  worths_are : (time : ℕ) (why : law.Ending) (r : ℕ) → r < length o.network.rewards → worth_at net es why r ≡ worths_by c.account.running (ending_in o.network time why) r
+  pub worths_are : (time : ℕ) (why : law.Ending) (r : ℕ) → r < length o.network.rewards → worth_at net es why r ≡ worths_by c.account.running (ending_in o.network time why) r
   worths_are time law.End r h = ap (λ (w : reward.Worth). (let x : Option Worth = Some (worth_of w) in x)) (sym (worth_by r h))
   worths_are time law.Unstable r h = refl
   worths_are time law.Events r h = refl

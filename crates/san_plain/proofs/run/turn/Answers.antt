@@ -20,7 +20,7 @@ returns-then-put-clause-report g c = λ o first under.
         t,
         h.stands,
         c.if-put.ensures.bytes (report_of o) (left_after o (under.0 ++ h.happened ∷ []) (trajectory (net_by o) t)) first
-        (sent_line o under.0 under.1 old.run under.2 c.in-Ok.event h.happened h.happens h.event_is c.step.new.self.flat.now first (g.K.Sink.held c.args.sink.now) old.pages (h.stands.of_network ∙ sym under.2.of_network) under.3),
+            (sent_line o under.0 under.1 old.run under.2 c.in-Ok.event h.happened h.happens h.event_is c.step.new.self.flat.now first (g.K.Sink.held c.args.sink.now) old.pages (h.stands.of_network ∙ sym under.2.of_network) under.3),
       ),
       h.fewer,
     )
