@@ -11,7 +11,7 @@ mod pieces;
 mod tests;
 mod worth;
 
-pub use last_lines::close;
+pub use last_lines::{close, worth_at};
 pub use line::{ending_line, event_line, put_ending, put_event};
 pub use pages::{Line, Pages};
 pub use worth::{put_reward, reward_line};
