@@ -11,9 +11,13 @@ mod flattened;
 #[cfg(test)]
 mod lines;
 #[cfg(test)]
+mod logs;
+#[cfg(test)]
 mod models;
 #[cfg(test)]
 mod network;
+#[cfg(test)]
+mod overlays;
 #[cfg(test)]
 mod parts;
 #[cfg(test)]
