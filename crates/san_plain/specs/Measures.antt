@@ -16,7 +16,7 @@ pub record Measured : Type 0 where
   pub ending : Ending
   pub worths : List (Option Worth)
 
--- numbered from one on
+-- the worths of rewards that are numbered from r on
 abbrev pub worths_from : List Reward → ℕ → (ℕ → Option Worth) → List (Option Worth)
 worths_from [] r worth = []
 worths_from (x ∷ xs) r worth = worth r ∷ worths_from xs (suc r) worth
