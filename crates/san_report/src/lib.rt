@@ -1,7 +1,6 @@
 //! The lines of a report: each completion, the ending, and each reward; and how they go out.
 #![tactic(auto)]
 
-mod growing;
 mod last_lines;
 mod line;
 mod pages;
@@ -9,6 +8,7 @@ mod path;
 mod pieces;
 #[cfg(test)]
 mod tests;
+mod vec_sink;
 mod worth;
 
 pub use last_lines::{close, worth_at};
