@@ -1,6 +1,6 @@
 -- The law's need, case by case.
-use Rattle.std.proofs.Common.{ℕ, ◌≤◌, ◌<◌, ◌≡◌, ◌∙◌, ap, sym, refl, subst, List, Option, Some, None, Bool, true, false, arith, cond, nat_le}
-use Rattle.san_law.specs.Order.{Finished, Need, Needs, Order, first_true, need_due, need_of, need_stale, need_unsettled, need_going}
+use Rattle.std.proofs.Common.{ℕ, ◌≤◌, ◌<◌, ◌≡◌, ◌∙◌, ap, sym, refl, subst, List, Option, Some, None, Bool, cond}
+use Rattle.san_law.specs.Order.{Finished, Needs, Order, first_true, need_due, need_of, need_stale, need_unsettled, need_going}
 use Rattle.san_law.specs.Piece.{Fire, Refresh, Settle}
 use Rattle.san_law.specs.Renewal as law
 use Rattle.san_law.specs.Renewal.{least_from}

@@ -1,8 +1,7 @@
 -- All leaves are unsettled and stale, and none has a timer.
-use Rattle.std.proofs.Common.{ℕ, zero, suc, ◌≡◌, ◌∙◌, ap, refl, sym, List, [], ◌∷◌, length, map, replicate, Option, Some, None, Bool, true}
+use Rattle.std.proofs.Common.{ℕ, ◌≡◌, ◌∙◌, ap, refl, sym, List, [], ◌∷◌, length, map, replicate, Option, None, Bool, true}
 use Rattle.std.proofs.lemmas.List.{length-map}
 use Rattle.san_law.specs.Activity as leaf
-use Rattle.san_law.specs.Net.{Slot}
 use Rattle.san_law.specs.Network as law
 use Rattle.san_net.specs.Leaf.{leaf_of}
 use Rattle.san_net.specs.Network.{Network, net_of}

@@ -1,6 +1,5 @@
 -- The first flag that is up, and flags that go up.
-use Rattle.std.proofs.Common.{ℕ, suc, ◌+◌, ◌<◌, ◌≤◌, ◌≡◌, ◌≢◌, ◌∙◌, ◌⊎◌, inl, inr, ap, sym, refl, List, [], ◌∷◌, length, Option, Some, None, Bool, true, false, arith, nat_eq, ◌||◌, slice_index_or, slice_set}
-use Rattle.std.specs.Prelude.{slice_get}
+use Rattle.std.proofs.Common.{ℕ, ◌<◌, ◌≤◌, ◌≡◌, ◌∙◌, ◌⊎◌, inl, inr, ap, sym, refl, List, [], ◌∷◌, length, Option, Some, None, Bool, true, false, arith, nat_eq, ◌||◌, slice_set}
 use Rattle.std.specs.List.{list_any}
 use Rattle.std.proofs.lemmas.Bool.{cases_eq, cases_lt}
 use Rattle.std.proofs.lemmas.List.{get_or-set_other, length-set}
@@ -11,7 +10,7 @@ use Rattle.san_law.specs.Order.{first_true, flag}
 use Rattle.san_law.proofs.Flags.{IsLeast, eq_other, eq_self, first_is, none_is}
 use Rattle.san_net.specs.Tables.{importers_of}
 use Rattle.san_net.specs.declared.part.Part.{Part}
-use Rattle.san_winner.specs.Flags.{IsNext, SaysNext}
+use Rattle.san_winner.specs.Flags.{SaysNext}
 use Rattle.san_turn.specs.inner.Marks.{raised, raised_all}
 use Rattle.san_turn.proofs.Lists.{set_same}
 

@@ -1,10 +1,9 @@
 -- The flags after a block are the law's.
-use Rattle.std.proofs.Common.{ℕ, zero, suc, ◌+◌, ◌<◌, ◌≤◌, ◌≡◌, ◌≢◌, ◌∙◌, inl, inr, ap, sym, refl, List, [], ◌∷◌, length, map, filter, Option, Some, None, Bool, true, false, arith, nat_eq, ◌||◌, ◌&&◌, cond, slice_index_or, slice_set}
+use Rattle.std.proofs.Common.{ℕ, zero, suc, ◌+◌, ◌<◌, ◌≡◌, ◌≢◌, ◌∙◌, inl, inr, ap, sym, refl, List, [], ◌∷◌, length, map, filter, Option, Some, None, Bool, true, false, arith, nat_eq, ◌||◌, ◌&&◌, cond, slice_set}
 use Rattle.std.specs.Prelude.{slice_get}
 use Rattle.std.specs.List.{list_any}
 use Rattle.std.proofs.lemmas.Bool.{cases_eq}
 use Rattle.std.proofs.lemmas.List.{ext_get_or, get_or-set_other, length-set}
-use Rattle.san_base.specs.declared.numbers.LeafId.{LeafId}
 use Rattle.san_base.specs.declared.numbers.PlaceId.{PlaceId}
 use Rattle.san_law.specs.Network as law
 use Rattle.san_law.specs.Order.{any_in, flag, flags_from, is_in}

@@ -1,5 +1,5 @@
 -- The leaves' least timers as keys and activities.
-use Rattle.std.proofs.Common.{ℕ, zero, suc, ◌+◌, ◌-◌, ◌<◌, ◌≤◌, ◌≡◌, ◌≢◌, ◌∙◌, inl, inr, ap, sym, refl, List, [], ◌∷◌, ◌++◌, length, map, replicate, take, Option, Some, None, Bool, true, false, arith, nat_lt, cond, slice_index, slice_index_or, slice_set}
+use Rattle.std.proofs.Common.{ℕ, zero, suc, ◌+◌, ◌-◌, ◌<◌, ◌≡◌, ◌≢◌, ◌∙◌, inl, inr, ap, sym, refl, List, [], ◌∷◌, ◌++◌, length, map, replicate, take, Option, Some, None, Bool, true, false, arith, nat_lt, cond, slice_index, slice_index_or, slice_set}
 use Rattle.std.specs.Prelude.{slice_get}
 use Rattle.std.proofs.lemmas.Bool.{cases_eq}
 use Rattle.std.proofs.lemmas.List.{ext_get_or, get_or-set_other, length-set}
@@ -8,7 +8,7 @@ use Rattle.san_base.specs.declared.numbers.Tick.{Tick}
 use Rattle.san_law.specs.Renewal as law
 use Rattle.san_law.proofs.Orders.{due_within}
 use Rattle.san_net.specs.declared.part.Part.{Part}
-use Rattle.san_winner.specs.Least.{Won, least_from, leaf, sooner}
+use Rattle.san_winner.specs.Least.{Won, least_from, sooner}
 use Rattle.san_turn.specs.Changes.{local_due}
 use Rattle.san_turn.specs.inner.Timed.{TimersValue, keyed, timed}
 use Rattle.san_turn.proofs.Lists.{set_same}

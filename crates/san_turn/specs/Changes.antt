@@ -4,7 +4,6 @@ use Rattle.san_base.specs.declared.numbers.ActId.{ActId}
 use Rattle.san_base.specs.declared.numbers.Tick.{Tick}
 use Rattle.san_base.specs.declared.piece.Kind.{Kind}
 use Rattle.san_base.specs.declared.piece.Kind.TheVariants as kind
-use Rattle.san_law.specs.Core.{Core}
 use Rattle.san_law.specs.Net.{Net}
 use Rattle.san_law.specs.Opening.{opening_core}
 use Rattle.san_law.specs.Order.{Order, any_in, flags_from, going_after}

@@ -15,6 +15,8 @@ mod need;
 mod order;
 mod timers;
 
-pub use laws::{a_block_changes_the_order, a_renewal_changes_the_order};
+pub use laws::{
+    a_block_changes_the_order, a_renewal_changes_the_order, a_taken_piece_changes_the_order,
+};
 pub use need::{Need, Taken};
 pub use order::Order;

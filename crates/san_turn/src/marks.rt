@@ -62,8 +62,9 @@ pub(crate) fn spread(flat: &Flat, written: &[PlaceId], leaf: LeafId, own: bool, 
     requires written { All (λ place. place.0 < length flat.now.initial) written.now }
     requires leaf { leaf.0 < length flat.now.parts }
     requires flags { length flags.old ≡ length flat.now.parts }
-    ensures { (draw : ℕ → ℕ → ℕ) (limits : Limits) → flags.new
-        ≡ flags_from (flag_after (net_of flat.now draw limits) leaf.0 (map (λ place. place.0) written.now) own) 0 flags.old }
+    ensures { (draw : ℕ → ℕ → ℕ) (limits : Limits)
+        → flags.new ≡ flags_from (flag_after (net_of flat.now draw limits) leaf.0
+        (map (λ place. place.0) written.now) own) 0 flags.old }
 {
     flat.is_network();
     raise_all(flat, written, flags);

@@ -49,7 +49,6 @@ fn number_of(first: u32, act: u32) -> u32
 }
 
 /// The numbers of the leaves' first activities.
-#[tactic(auto, using(crate::proofs::Timed::firsts_more))]
 fn firsts_of(alloc: Global, flat: &Flat) -> Result<Vec<u32>, AllocError>
     ensures { IfOk result (λ v. v.items ≡ map (λ p. p.first.0) flat.now.parts) }
 {
@@ -63,7 +62,6 @@ fn firsts_of(alloc: Global, flat: &Flat) -> Result<Vec<u32>, AllocError>
 
 impl Timers {
     /// No leaf has a timer.
-    #[tactic(auto, using(crate::proofs::Timed::timed_open))]
     pub(crate) fn open(alloc: Global, flat: &Flat) -> Result<Timers, NoMemory>
         ensures { IfOk result (λ t. t ≡ record {
           dues = replicate (length flat.now.parts) None;

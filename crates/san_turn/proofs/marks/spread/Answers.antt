@@ -1,4 +1,4 @@
-use Rattle.std.proofs.Common.{◌≡◌, ◌∙◌, ap, arith, length, slice_set, List, Bool}
+use Rattle.std.proofs.Common.{◌∙◌, ap, arith, length, slice_set, List, Bool}
 use Rattle.san_turn.proofs.Raised.{length_raised_all}
 use Rattle.san_turn.proofs.Spread.{spread_is}
 use Rattle.san_turn.proofs.marks.spread.Goals as goal

@@ -1,4 +1,4 @@
-use Rattle.std.proofs.Common.{◌≡◌, ap, sym, subst, Option}
+use Rattle.std.proofs.Common.{◌≡◌, ap, sym, subst}
 use Rattle.std.specs.Option.{option_map}
 use Rattle.san_base.specs.declared.numbers.LeafId.{LeafId}
 use Rattle.san_law.specs.Order.{need_of}

@@ -1,4 +1,4 @@
-use Rattle.std.proofs.Common.{ℕ, Bool, List, Option, ◌∙◌, ap, length, replicate, true, None}
+use Rattle.std.proofs.Common.{ℕ, Bool, List, ◌∙◌, ap, length, replicate, true, None}
 use Rattle.san_turn.specs.Changes.{OrderValue}
 use Rattle.san_turn.specs.inner.Timed.{TimersValue}
 use Rattle.san_turn.proofs.Opened.{opened_is}

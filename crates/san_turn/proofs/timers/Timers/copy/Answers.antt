@@ -1,4 +1,4 @@
-use Rattle.std.proofs.Common.{ℕ, List, Option, ◌≡◌, ◌∙◌, ap, arith, None}
+use Rattle.std.proofs.Common.{ℕ, List, ◌≡◌, ◌∙◌, ap, arith, None}
 use Rattle.std.proofs.lemmas.List.{ext_get_or}
 use Rattle.san_turn.proofs.Timed.{value}
 use Rattle.san_turn.proofs.timers.Timers.copy.Goals as goal

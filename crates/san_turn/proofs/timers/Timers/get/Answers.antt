@@ -1,4 +1,4 @@
-use Rattle.std.proofs.Common.{◌≡◌, ◌-◌, ◌∙◌, ap, arith, sym, Option, None, Some, ℕ, slice_index, slice_index_or}
+use Rattle.std.proofs.Common.{◌≡◌, ◌-◌, ◌∙◌, ap, arith, Option, None, Some, ℕ, slice_index, slice_index_or}
 use Rattle.std.proofs.lemmas.List.{get_or_default}
 use Rattle.san_turn.specs.inner.Timed.{TimersValue}
 use Rattle.san_turn.proofs.Timed.{get_is, long_as}

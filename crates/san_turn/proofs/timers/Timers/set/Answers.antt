@@ -1,6 +1,4 @@
-use Rattle.std.proofs.Common.{ℕ, List, Option, None, Some, ◌∙◌, ap, arith, slice_set, sym}
-use Rattle.san_base.specs.declared.numbers.ActId.{ActId}
-use Rattle.san_base.specs.declared.numbers.Tick.{Tick}
+use Rattle.std.proofs.Common.{◌∙◌, ap, arith, slice_set, sym}
 use Rattle.san_turn.specs.inner.Timed.{TimersValue}
 use Rattle.san_turn.proofs.Timed.{long_as, set_none, set_some, value, with_due}
 use Rattle.san_turn.proofs.timers.Timers.set.Goals as goal
