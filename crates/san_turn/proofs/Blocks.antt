@@ -9,11 +9,10 @@ use Rattle.san_base.specs.declared.piece.Kind.TheVariants as kind
 use Rattle.san_law.specs.Net.{Net}
 use Rattle.san_law.specs.Order.{Order, flags_from, going_after}
 use Rattle.san_law.proofs.Flags.{length_flags}
-use Rattle.san_turn.specs.Changes.{OrderValue, flag_after, local_due, order_by, order_of_block, order_taken}
+use Rattle.san_turn.specs.Changes.{OrderValue, flag_after, local_due, order_by, order_of_block, told}
 use Rattle.san_turn.specs.declared.need.Taken.{Taken}
 use Rattle.san_turn.specs.inner.Ordered.{IsOrdered}
-use Rattle.san_turn.specs.inner.Timed.{TimersValue}
-use Rattle.san_turn.proofs.Timed.{with_due}
+use Rattle.san_turn.specs.inner.Timed.{TimersValue, with_due}
 
 -- the value of an order of these fields
 abbrev pub built : Option ℕ → List Bool → List Bool → TimersValue → ℕ → ℕ → OrderValue
@@ -24,7 +23,7 @@ built going unsettled stale timers time horizon = record {
 }
 
 -- with another order of the law's
-abbrev pub with_order : OrderValue → Order → OrderValue
+abbrev with_order : OrderValue → Order → OrderValue
 with_order v o = record { order = o; firsts = v.firsts; horizon = v.horizon }
 
 -- flags after a block that wrote these places
@@ -42,7 +41,7 @@ pub block_taken : (net : Net) (v : OrderValue) (j : ℕ) (t : Taken) (going : Op
     → us ≡ flags_from (flag_after net j (map (λ (x : PlaceId). x.0) ps) false) 0 v.order.unsettled → ps ≡ t.written.items
     → ss ≡ flags_from (flag_after net j (map (λ (x : PlaceId). x.0) qs) true) 0 v.order.stale → qs ≡ t.written.items
     → ts ≡ with_due (record { dues = v.order.dues; firsts = v.firsts }) j t.due
-    → built going us ss ts t.time.0 v.horizon ≡ with_order v (order_taken net v.order j (slice_index v.firsts j) t)
+    → built going us ss ts t.time.0 v.horizon ≡ told net v j t
 block_taken net v j t going us ss ts ps qs kinds goes u up s sp due =
     ap (λ (g : Option ℕ). built g us ss ts t.time.0 v.horizon) goes
     ∙ ap (λ (fs : List Bool). built (going_after j t.more) fs ss ts t.time.0 v.horizon) (u ∙ ap (flags_by net j false v.order.unsettled) up)

@@ -9,8 +9,7 @@ use Rattle.san_law.specs.Renewal as law
 use Rattle.san_law.proofs.Orders.{due_within}
 use Rattle.san_net.specs.declared.part.Part.{Part}
 use Rattle.san_winner.specs.Least.{Won, least_from, sooner}
-use Rattle.san_turn.specs.Changes.{local_due}
-use Rattle.san_turn.specs.inner.Timed.{TimersValue, keyed, timed}
+use Rattle.san_turn.specs.inner.Timed.{TimersValue, keyed, timed, with_due}
 use Rattle.san_turn.proofs.Lists.{set_same}
 
 pub length_timed : (firsts acts : List ℕ) (i : ℕ) (keys : List (Option ℕ)) → length (timed firsts acts i keys) ≡ length keys
@@ -100,9 +99,6 @@ timed_open firsts acts keys n m e is = ap (timed firsts acts 0) is ∙ timed_non
 -- a leaf's timer is set
 abbrev pub value : List ℕ → List ℕ → List (Option ℕ) → TimersValue
 value firsts acts keys = record { dues = timed firsts acts 0 keys; firsts = firsts }
-
-abbrev pub with_due : TimersValue → ℕ → Option (Tick × ActId) → TimersValue
-with_due t j due = record { dues = slice_set t.dues j (local_due (slice_index t.firsts j) due); firsts = t.firsts }
 
 pub set_none : (firsts acts : List ℕ) (keys : List (Option ℕ)) (j : ℕ) → j < length keys → value firsts acts (slice_set keys j None) ≡ with_due (value firsts acts keys) j None
 set_none firsts acts keys j h = ap (λ (ds : List (Option (ℕ × ℕ))). (let t : TimersValue = record { dues = ds; firsts = firsts } in t)) (timed_set firsts acts acts keys j None h (λ i n. refl))

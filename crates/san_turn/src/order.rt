@@ -1,10 +1,10 @@
 //! The order of needs.
 
-ghost use Rattle.std.specs.Prelude.{◌≡◌, ◌↔◌, ◌<◌, ℕ, All, IfOk, IsTrue, Some, length, map, slice_index};
+ghost use Rattle.std.specs.Prelude.{◌≡◌, ◌↔◌, ◌<◌, ℕ, All, IfOk, IsTrue, Some, length, map};
 ghost use Rattle.san_law.specs.Network.{Limits};
 ghost use Rattle.san_law.specs.Order.{flag, going_after, need_of};
 ghost use Rattle.san_net.specs.Network.{net_of};
-ghost use Rattle.san_turn.specs.Changes.{opened, order_taken};
+ghost use Rattle.san_turn.specs.Changes.{opened, told};
 ghost use Rattle.san_turn.specs.Needs.{need_in};
 ghost use Rattle.std.specs.Option.{option_map};
 
@@ -17,8 +17,8 @@ use san_winner::Flags;
 use std::alloc::Global;
 use std::marker::Model;
 
-/// Which leaves have something to do: the one whose last piece had more, the unsettled and the stale
-/// ones, and those whose timers are due up to the horizon.
+/// Which leaves have something to do: the one whose last piece had more, the unsettled and the
+/// stale ones, and those whose timers are due up to the horizon.
 #[derive(Debug, Drop)]
 pub struct Order {
     going: Option<LeafId>,
@@ -134,9 +134,8 @@ impl Order {
         requires order { self.old.firsts ≡ map (λ p. p.first.0) flat.now.parts }
         requires leaf { leaf.0 < length flat.now.parts }
         requires written { All (λ place. place.0 < length flat.now.initial) taken.now.written.items }
-        ensures { (draw : ℕ → ℕ → ℕ) (limits : Limits) → self.new ≡ record self.old {
-          order = order_taken (net_of flat.now draw limits) self.old.order leaf.0 (slice_index self.old.firsts leaf.0) taken.now;
-        } }
+        ensures { (draw : ℕ → ℕ → ℕ) (limits : Limits)
+            → self.new ≡ told (net_of flat.now draw limits) self.old leaf.0 taken.now }
     {
         self.time = taken.time;
         self.timers.set(leaf, taken.due);

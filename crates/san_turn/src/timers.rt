@@ -3,8 +3,7 @@
 ghost use Rattle.std.specs.Option.{option_map};
 ghost use Rattle.std.specs.Prelude.{◌≡◌, ◌↔◌, ◌<◌, ◌+◌, ◌-◌, ℕ, List, Option, IfOk, IsTrue, None, length, map, replicate, slice_index, slice_index_or, slice_set};
 ghost use Rattle.san_law.specs.Renewal.{least_from};
-ghost use Rattle.san_turn.specs.Changes.{local_due};
-ghost use Rattle.san_turn.specs.inner.Timed.{due_in};
+ghost use Rattle.san_turn.specs.inner.Timed.{due_in, with_due};
 
 use san_base::{ActId, LeafId, NoMemory, Tick, all_same};
 use san_net::Flat;
@@ -20,8 +19,8 @@ pub(crate) struct Due {
     pub(crate) act: ActId,
 }
 
-/// Each leaf's least timer, with the numbers of the leaves' first activities. Activities are kept by
-/// the network's numbers.
+/// Each leaf's least timer, with the numbers of the leaves' first activities. Activities are kept
+/// by the network's numbers.
 #[derive(Debug, Drop)]
 pub(crate) struct Timers {
     keys: Winners,
@@ -110,9 +109,7 @@ impl Timers {
     /// Sets a leaf's least timer.
     pub(crate) fn set(&mut self, leaf: LeafId, due: Option<(Tick, ActId)>)
         requires { leaf.0 < length self.old.dues }
-        ensures { self.new ≡ record self.old {
-          dues = slice_set self.old.dues leaf.0 (local_due (slice_index self.old.firsts leaf.0) due);
-        } }
+        ensures { self.new ≡ with_due self.old leaf.0 due }
     {
         match due {
             None => self.keys.set(leaf.0 as usize, None),

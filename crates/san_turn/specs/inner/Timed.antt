@@ -1,6 +1,9 @@
 -- The leaves' least timers, kept as keys and activities.
-use Rattle.std.specs.Prelude.{ℕ, suc, ◌+◌, ◌-◌, ◌^◌, ◌≡◌, ◌<◌, List, [], ◌∷◌, length, Option, Some, None, slice_index}
+use Rattle.std.specs.Prelude.{ℕ, suc, ◌+◌, ◌-◌, ◌^◌, ◌≡◌, ◌<◌, List, [], ◌∷◌, length, Option, Some, None, slice_index, slice_set}
+use Rattle.san_base.specs.declared.numbers.ActId.{ActId}
+use Rattle.san_base.specs.declared.numbers.Tick.{Tick}
 use Rattle.san_law.specs.Renewal as law
+use Rattle.san_turn.specs.Changes.{local_due}
 use Rattle.san_turn.specs.declared.timers.Due.{Due}
 
 -- the leaves' least timers, activities by number in the leaf, and the numbers of the leaves' first activities
@@ -27,3 +30,7 @@ pub record AreTimers (keys : List (Option ℕ)) (firsts acts : List ℕ) : Type 
 -- the least timer, with its activity by the network's number
 abbrev pub due_in : List ℕ → law.Due → Due
 due_in firsts d = record { time = record { 0 = d.time }; leaf = record { 0 = d.leaf }; act = record { 0 = slice_index firsts d.leaf + d.act } }
+
+-- with another least timer of a leaf
+abbrev pub with_due : TimersValue → ℕ → Option (Tick × ActId) → TimersValue
+with_due t j due = record { dues = slice_set t.dues j (local_due (slice_index t.firsts j) due); firsts = t.firsts }

@@ -1,6 +1,6 @@
 use Rattle.std.proofs.Common.{◌∙◌, ap, arith, slice_set, sym}
-use Rattle.san_turn.specs.inner.Timed.{TimersValue}
-use Rattle.san_turn.proofs.Timed.{long_as, set_none, set_some, value, with_due}
+use Rattle.san_turn.specs.inner.Timed.{TimersValue, with_due}
+use Rattle.san_turn.proofs.Timed.{long_as, set_none, set_some, value}
 use Rattle.san_turn.proofs.timers.Timers.set.Goals as goal
 
 pub set-requires : goal.set-requires
