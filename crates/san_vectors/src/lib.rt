@@ -15,6 +15,8 @@ mod models;
 #[cfg(test)]
 mod network;
 #[cfg(test)]
+mod orders;
+#[cfg(test)]
 mod parts;
 #[cfg(test)]
 mod positions;
