@@ -23,10 +23,10 @@ use Rattle.san_reward.specs.declared.worth.Worth.{Worth}
 use Rattle.san_reward.proofs.RatesSet.{rates_law}
 use Rattle.san_reward.proofs.Telling.{worth_same}
 use Rattle.san_report.specs.Closings.{closing, worths_by}
-use Rattle.san_plain.specs.inner.Progress.{IsOver, Stands, left_after}
+use Rattle.san_plain.specs.inner.Progress.{Ends, IsOver, Stands, left_after}
 use Rattle.san_report.specs.Pages.{Sent}
 use Rattle.san_plain.specs.Reports.{Opened, net_by, report_of, worth_at}
-use Rattle.san_plain.specs.declared.run.RunInProgress.{RunInProgress}
+use Rattle.san_plain.specs.declared.counted.CountedRun.{CountedRun}
 use Rattle.san_plain.proofs.NumberLemmas.{act_below}
 use Rattle.san_plain.proofs.ReportLemmas.{lines_last, outcome_is, rewards_like}
 use Rattle.san_plain.proofs.StepLemmas.{IsEnd, ends, fits_at}
@@ -59,7 +59,7 @@ over_by : (n : Network) (x : law.Stepped) (e : Ending) → told_of n x ≡ Err e
 over_by n (law.Happened f) e told = absurd cc
 over_by n (law.Over time why) e told = (time, why, refl, same_ending (ending_in n time why) e told)
 
-module _ (o : Opened) (es : List law.Event) (s : State) (c : RunInProgress) (st : Stands o es s c) where
+module _ (o : Opened) (es : List law.Event) (s : State) (c : CountedRun) (st : Stands o es s c) where
   abbrev net : Net
   net = net_by o
 
@@ -69,7 +69,7 @@ module _ (o : Opened) (es : List law.Event) (s : State) (c : RunInProgress) (st 
   end_is : (time : ℕ) (why : law.Ending) → (law.step net s).0 ≡ law.Over time why → IsEnd o.network net time why
   end_is time why over = ends o.network (draw_of o.seed) (limits_in o.limits) is_lawful s time why (fits_at o.network (draw_of o.seed) (limits_in o.limits) is_lawful es s st.runs) over
 
-  many_spans : length c.account.running.spans ≡ length o.network.rewards
+  pub many_spans : length c.account.running.spans ≡ length o.network.rewards
   many_spans = ap (λ (xs : List Span). length xs) (sym st.counted.is_of.spans) ∙ length-map o.network.rewards (λ r. span_in r.span)
 
   -- what the account says of a reward is its worth
@@ -80,7 +80,7 @@ module _ (o : Opened) (es : List law.Event) (s : State) (c : RunInProgress) (st 
       sym (worth_same net a.running st.counted.is_of r)
       ∙ counted_worth net (opening_state net) s es a.running.time a.running.tally st.runs st.counted.counts (st.counted.rates ∙ rates_law s.marking o.network (draw_of o.seed) (limits_in o.limits)) r inside
 
-  worths_are : (time : ℕ) (why : law.Ending) (r : ℕ) → r < length o.network.rewards → worth_at net es why r ≡ worths_by c.account.running (ending_in o.network time why) r
+  pub worths_are : (time : ℕ) (why : law.Ending) (r : ℕ) → r < length o.network.rewards → worth_at net es why r ≡ worths_by c.account.running (ending_in o.network time why) r
   worths_are time law.End r h = ap (λ (w : reward.Worth). (let x : Option Worth = Some (worth_of w) in x)) (sym (worth_by r h))
   worths_are time law.Unstable r h = refl
   worths_are time law.Events r h = refl
@@ -100,18 +100,25 @@ module _ (o : Opened) (es : List law.Event) (s : State) (c : RunInProgress) (st 
       ∙ (ap (λ (xs : List ℕ). ending_line n (length es) e ++ xs) (rewards_like n.rewards 0 (worth_at net es why) (worths_by c.account.running e) (λ q l h. worths_are time why q (omega (arith, h))))
       ∙ (ap (λ (k : ℕ). closing n c.account.running k e) (sym st.many) ∙ ap (λ (m : Network). closing m c.account.running c.count e) (sym st.of_network)))
 
-  over : (first now : Option (List ℕ)) (time : ℕ) (why : law.Ending) → (law.step net s).0 ≡ law.Over time why → Sent first now c.pages (report_of o) (left_after o es (trajectory net s)) → IsOver o first now c (ending_in o.network time why)
-  over first now time why is sent = record {
+  over : (first now : Option (List ℕ)) (page : List ℕ) (time : ℕ) (why : law.Ending) → (law.step net s).0 ≡ law.Over time why → Sent first now page (report_of o) (left_after o es (trajectory net s)) → IsOver o first now c page (ending_in o.network time why)
+  over first now page time why is sent = record {
     outcome = outcome_is o es s time why st.runs is;
     within = subst (λ (n : Network). EndsIn n (ending_in o.network time why)) (sym st.of_network) (ends_in time why (end_is time why is));
     spans = many_spans ∙ ap (λ (n : Network). length n.rewards) (sym st.of_network);
-    put = subst (λ (xs : List ℕ). Sent first now c.pages (report_of o) xs) (closing_is time why is) sent;
+    put = subst (λ (xs : List ℕ). Sent first now page (report_of o) xs) (closing_is time why is) sent;
   }
 
-  is_over : (first now : Option (List ℕ)) (e : Ending) → (step_of c.seq).0 ≡ Err e → Sent first now c.pages (report_of o) (left_after o es (trajectory net s)) → IsOver o first now c e
-  is_over first now e told sent =
+  -- a run is over by its last step
+  pub is_over : (first now : Option (List ℕ)) (page : List ℕ) (e : Ending) (new : CountedRun) → Ends o s e c new → Sent first now page (report_of o) (left_after o es (trajectory net s)) → IsOver o first now new page e
+  is_over first now page e new ends sent = subst (λ (k : CountedRun). IsOver o first now k page e) (sym ends.kept) (moved (subst (IsOver o first now c page) ends.ending_is (over first now page ends.time ends.why ends.over sent)))
+    where
+      moved : IsOver o first now c page e → IsOver o first now (record c { seq = new.seq }) page e
+      moved y = record { outcome = y.outcome; within = y.within; spans = y.spans; put = y.put }
+
+  ends_by : (e : Ending) (new : CountedRun) → (step_of c.seq).0 ≡ Err e → new ≡ record c { seq = new.seq } → Ends o s e c new
+  ends_by e new told kept =
       let at = over_by o.network (law.step net s).0 e (ap (λ (r : Run). (step_of r).0) (sym st.at_state) ∙ told) in
-      subst (IsOver o first now c) at.3 (over first now at.0 at.1 at.2 sent)
+      record { time = at.0; why = at.1; over = at.2; ending_is = at.3; kept = kept }
 
   end_tick : (time : ℕ) (why : law.Ending) (h : Tick) → IsEnd o.network net time why → ending_in o.network time why ≡ ending.End h → h ≡ o.limits.horizon
   end_tick time law.End h is e = same (record { 0 = time }) h e is
@@ -132,9 +139,9 @@ module _ (o : Opened) (es : List law.Event) (s : State) (c : RunInProgress) (st 
       let tick = end_tick at.0 at.1 h (end_is at.0 at.1 at.2) at.3 in
       told ∙ ap (λ (t : Tick). (let r : Result Event Ending = Err (ending.End t) in r)) (tick ∙ ap (λ l. l.horizon) (sym st.in_limits))
 
-  -- a run that has ended at its horizon, or stopped
-  pub ended : (first now : Option (List ℕ)) → stepped.End ≡ stepped_of (step_of c.seq).0 → Sent first now c.pages (report_of o) (left_after o es (trajectory net s)) → IsOver o first now c (ending.End c.limits.horizon)
-  ended first now said sent = let told = end_told (step_of c.seq).0 (sym said) in is_over first now (ending.End c.limits.horizon) (at_horizon told.0 told.1) sent
+  -- a step that ends the run at its horizon, or stops it
+  pub ended : (new : CountedRun) → stepped.End ≡ stepped_of (step_of c.seq).0 → new ≡ record c { seq = new.seq } → Ends o s (ending.End c.limits.horizon) c new
+  ended new said kept = let told = end_told (step_of c.seq).0 (sym said) in ends_by (ending.End c.limits.horizon) new (at_horizon told.0 told.1) kept
 
-  pub stopped : (first now : Option (List ℕ)) (why : Stop) → stepped.Stopped why ≡ stepped_of (step_of c.seq).0 → Sent first now c.pages (report_of o) (left_after o es (trajectory net s)) → IsOver o first now c (ending.Stop why)
-  stopped first now why said sent = is_over first now (ending.Stop why) (stop_told (step_of c.seq).0 why (sym said)) sent
+  pub stopped : (new : CountedRun) (why : Stop) → stepped.Stopped why ≡ stepped_of (step_of c.seq).0 → new ≡ record c { seq = new.seq } → Ends o s (ending.Stop why) c new
+  stopped new why said kept = ends_by (ending.Stop why) new (stop_told (step_of c.seq).0 why (sym said)) kept

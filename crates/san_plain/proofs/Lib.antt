@@ -10,3 +10,4 @@ pub mod RateLemmas
 pub mod FollowLemmas
 pub mod ImpulseLemmas
 pub mod AccountLemmas
+pub mod MeasureLemmas

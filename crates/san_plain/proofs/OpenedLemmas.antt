@@ -7,9 +7,10 @@ use Rattle.san_law.specs.Trajectory.{trajectory}
 use Rattle.san_net.specs.Laid.{IsNetwork}
 use Rattle.san_reward.specs.Running.{rates_in}
 use Rattle.san_plain.specs.inner.Accounts.{RewardAccount, opened_account}
-use Rattle.san_plain.specs.inner.Progress.{HasCounted, IsOpened, IsUnderWay, Stands, left_after, opened_by}
+use Rattle.san_plain.specs.inner.Progress.{HasCounted, IsOpened, IsUnderWay, IsUnwritten, Stands, left_after, opened_by}
 use Rattle.san_report.specs.Pages.{Sent}
 use Rattle.san_plain.specs.Reports.{Opened, net_by, report_of}
+use Rattle.san_plain.specs.declared.counted.CountedRun.{CountedRun}
 use Rattle.san_plain.specs.declared.run.RunInProgress.{RunInProgress}
 use Rattle.san_plain.proofs.CountLemmas.{opened_counts, opened_is}
 use Rattle.san_plain.proofs.ReportLemmas.{whole_left}
@@ -35,8 +36,8 @@ module _ (o : Opened) where
   sent_none : (first : Option (List ℕ)) → Sent first first [] (report_of o) (left_after o [] (trajectory (net_by o) start))
   sent_none first = ([], appends_nothing first, whole_left o)
 
-module _ (c : RunInProgress) (known : IsNetwork c.flat.now) (is : IsOpened c) where
-  stands : Stands (opened_by c) [] (start (opened_by c)) c
+module _ (c : CountedRun) (known : IsNetwork c.flat.now) (is : IsOpened c) where
+  pub stands : Stands (opened_by c) [] (start (opened_by c)) c
   stands = record {
     known = known;
     range = is.range;
@@ -48,7 +49,8 @@ module _ (c : RunInProgress) (known : IsNetwork c.flat.now) (is : IsOpened c) wh
     many = is.none;
   }
 
-  pub begins : (first : Option (List ℕ)) → IsUnderWay (opened_by c) first first c
-  begins first =
-      let o = opened_by c in
-      ([], start o, stands, subst (λ (page : List ℕ). Sent first first page (report_of o) (left_after o [] (trajectory (net_by o) (start o)))) (sym is.page) (sent_none o first))
+-- its report is to come whole
+pub begins : (p : RunInProgress) → IsNetwork p.run.flat.now → IsUnwritten p → (first : Option (List ℕ)) → IsUnderWay (opened_by p.run) first first p
+begins p known is first =
+    let o = opened_by p.run in
+    ([], start o, stands p.run known is.run, subst (λ (page : List ℕ). Sent first first page (report_of o) (left_after o [] (trajectory (net_by o) (start o)))) (sym is.page) (sent_none o first))

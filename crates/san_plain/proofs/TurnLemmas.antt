@@ -21,7 +21,7 @@ use Rattle.san_law.specs.Trajectory.{trajectory}
 use Rattle.san_plain.specs.inner.Progress.{HasCounted, Stands, left_after, run_at}
 use Rattle.san_report.specs.Pages.{Sent}
 use Rattle.san_plain.specs.Reports.{Opened, net_by, report_of}
-use Rattle.san_plain.specs.declared.run.RunInProgress.{RunInProgress}
+use Rattle.san_plain.specs.declared.counted.CountedRun.{CountedRun}
 use Rattle.san_plain.proofs.CountLemmas.{counts_on}
 use Rattle.san_plain.proofs.NumberLemmas.{act_below, impulses_same, reaches}
 use Rattle.san_plain.proofs.ReportLemmas.{line_first}
@@ -44,7 +44,7 @@ event_told (Ok f) e is = ap (λ (y : Event). (let r : Result Event Ending = Ok y
 event_told (Err (ending.End h)) e is = absurd cc
 event_told (Err (ending.Stop why)) e is = absurd cc
 
-module _ (o : Opened) (es : List law.Event) (s : State) (c : RunInProgress) (st : Stands o es s c) (event : Event) (said : stepped.Event event ≡ stepped_of (step_of c.seq).0) where
+module _ (o : Opened) (es : List law.Event) (s : State) (c : CountedRun) (st : Stands o es s c) (event : Event) (said : stepped.Event event ≡ stepped_of (step_of c.seq).0) where
   abbrev net : Net
   net = net_by o
 
@@ -66,7 +66,7 @@ module _ (o : Opened) (es : List law.Event) (s : State) (c : RunInProgress) (st 
   pub happens : (law.step net s).0 ≡ law.Happened happened
   happens = is_the_laws.happens
 
-  event_is : event_in o.network happened ≡ event
+  pub event_is : event_in o.network happened ≡ event
   event_is = is_the_laws.told
 
   in_time : IsInTime o.network net s happened
@@ -151,7 +151,7 @@ module _ (o : Opened) (es : List law.Event) (s : State) (c : RunInProgress) (st 
           early = omega (arith, on.now, in_time.present);
         }
 
-    pub stands_on : (d : RunInProgress) → d.flat.now ≡ c.flat.now → d.limits ≡ c.limits → d.seq ≡ new → d.account ≡ with_event c.account event m → d.count ≡ c.count + 1 → Stands o (es ++ happened ∷ []) reached d
+    pub stands_on : (d : CountedRun) → d.flat.now ≡ c.flat.now → d.limits ≡ c.limits → d.seq ≡ new → d.account ≡ with_event c.account event m → d.count ≡ c.count + 1 → Stands o (es ++ happened ∷ []) reached d
     stands_on d flat limits seq account count = record {
       known = st.known;
       range = st.range;
@@ -163,20 +163,20 @@ module _ (o : Opened) (es : List law.Event) (s : State) (c : RunInProgress) (st 
       many = omega (arith, count, st.many, length-append es (happened ∷ []));
     }
 
-  -- its line
-  pub line_is : event_line c.flat.now c.count event ≡ event_line o.network (length es) (event_in o.network happened)
+  pub inside : event.act.0 < acts_of o.network.parts
+  inside = omega (arith, act_is, act_below o.network st.known happened.leaf happened.act done.act)
+
+-- the line of an event
+module _ (o : Opened) (es : List law.Event) (s : State) (c : CountedRun) (st : Stands o es s c) (event : Event) (happened : law.Event) (happens : (law.step (net_by o) s).0 ≡ law.Happened happened) (event_is : event_in o.network happened ≡ event) where
+  line_is : event_line c.flat.now c.count event ≡ event_line o.network (length es) (event_in o.network happened)
   line_is =
       ap (λ (n : Network). event_line n c.count event) st.of_network
       ∙ (ap (λ (k : ℕ). event_line o.network k event) st.many ∙ ap (event_line o.network (length es)) (sym event_is))
 
-  pub in_network : event.act.0 < acts_of c.flat.now.parts
-  in_network =
-      let of = ap (λ (n : Network). acts_of n.parts) st.of_network in
-      omega (arith, act_is, of, act_below o.network st.known happened.leaf happened.act done.act)
-
   -- it comes first of what is left of the report
-  pub sent_line : (first now : Option (List ℕ)) (page : List ℕ) → Sent first now page (report_of o) (left_after o es (trajectory net s))
-      → Sent first now page (report_of o) (event_line c.flat.now c.count event ++ left_after o (es ++ happened ∷ []) (trajectory net reached))
-  sent_line first now page sent =
-      let rest = left_after o (es ++ happened ∷ []) (trajectory net reached) in
-      subst (λ (ys : List ℕ). Sent first now page (report_of o) ys) (line_first o es s happened happens ∙ ap (λ (ys : List ℕ). ys ++ rest) (sym line_is)) sent
+  pub sent_line : (n : Network) (first now : Option (List ℕ)) (page : List ℕ) → n ≡ c.flat.now → Sent first now page (report_of o) (left_after o es (trajectory (net_by o) s))
+      → Sent first now page (report_of o) (event_line n c.count event ++ left_after o (es ++ happened ∷ []) (trajectory (net_by o) (law.step (net_by o) s).1))
+  sent_line n first now page same sent =
+      let rest = left_after o (es ++ happened ∷ []) (trajectory (net_by o) (law.step (net_by o) s).1) in
+      let line : event_line n c.count event ≡ event_line o.network (length es) (event_in o.network happened) = ap (λ (m : Network). event_line m c.count event) same ∙ line_is in
+      subst (λ (ys : List ℕ). Sent first now page (report_of o) ys) (line_first o es s happened happens ∙ ap (λ (ys : List ℕ). ys ++ rest) (sym line)) sent

@@ -4,8 +4,11 @@
 
 mod account;
 mod cells;
+mod counted;
 mod impulses;
+mod measured;
 mod rates;
 mod run;
 
+pub use measured::measure;
 pub use run::{Run, Unwritten};

@@ -7,11 +7,10 @@ ghost use Rattle.san_report.specs.Puts.{EndsIn};
 ghost use Rattle.san_plain.specs.inner.Progress.{IsOver, IsStanding, IsUnderWay, TurnedTo};
 ghost use Rattle.san_plain.specs.Reports.{Opened, Reports};
 
-use crate::account::RewardAccount;
+use crate::counted::CountedRun;
 use san_base::{Ending, Limits, NoMemory, Sink};
 use san_net::Flat;
 use san_report::{Line, Pages, close};
-use san_seq::{Seq, Stepped};
 use std::alloc::Global;
 use std::marker::Model;
 
@@ -19,26 +18,21 @@ use std::marker::Model;
 #[derive(Clone, Copy, Debug, PartialEq, Eq)]
 pub struct Unwritten;
 
-/// A run under way, with what is kept between its events.
+/// A run under way, with what of its report is kept back.
 #[derive(Drop)]
 struct RunInProgress<'a> {
-    flat: &'a Flat,
-    limits: Limits,
-    seq: Seq<'a>,
-    account: RewardAccount<'a>,
+    run: CountedRun<'a>,
     pages: Pages,
-    /// The number of events so far.
-    count: u64,
 }
 
 /// A run that has not begun, with all the memory that it takes.
 #[derive(Drop)]
 pub struct Run<'a> {
-    run: RunInProgress<'a>,
+    progress: RunInProgress<'a>,
 }
 
 impl<'a> Model for Run<'a> {
-    ghost use Rattle.san_plain.specs.inner.Progress.{IsOpened, opened_by};
+    ghost use Rattle.san_plain.specs.inner.Progress.{IsUnwritten, opened_by};
     ghost use Rattle.san_plain.specs.Reports.{Opened};
     ghost use Rattle.san_net.specs.contracts.part.Part as of_part;
     ghost use Rattle.std.specs.Coded.{codes};
@@ -47,52 +41,55 @@ impl<'a> Model for Run<'a> {
 
     ghost coded = { Prim.hlevel (codes, of_part.the_row.coded) };
 
-    ghost view = { λ r. opened_by r.run };
+    ghost view = { λ r. opened_by r.progress.run };
 
-    ghost invariant = { λ r. IsOpened r.run };
+    ghost invariant = { λ r. IsUnwritten r.progress };
 }
 
-/// Takes a step. An event is counted, and its line is put; an ending is answered.
-fn turn<K: Sink>(run: &mut RunInProgress<'_>, sink: &mut K) -> Result<Option<Ending>, Unwritten>
-    requires { IsStanding run.old }
+/// Takes a step. The line of an event is put; an ending is answered.
+fn turn<K: Sink>(
+    progress: &mut RunInProgress<'_>,
+    sink: &mut K,
+) -> Result<Option<Ending>, Unwritten>
+    requires { IsStanding progress.old.run }
     ensures report { (o : Opened) (first : Option (List ℕ))
-        → IsUnderWay o first (K.held sink.old) run.old
-        → TurnedTo o first result (K.held sink.new) run.old run.new }
+        → IsUnderWay o first (K.held sink.old) progress.old
+        → TurnedTo o first result (K.held sink.new) progress.old progress.new }
     ensures cause { IfErr result (λ e. Rose (K.faults sink.old) (K.faults sink.new)) }
     ensures later { K.faults sink.old ≤ K.faults sink.new }
 {
-    match run.seq.step() {
-        Stepped::Event(event) => {
-            run.account.count(event, run.seq.marking());
-            let line = Line::Event(run.count, event);
-            run.count += 1;
-            if run.pages.put(sink, run.flat, line) {
+    let number = progress.run.count;
+    match progress.run.step() {
+        Ok(event) => {
+            let line = Line::Event(number, event);
+            if progress.pages.put(sink, progress.run.flat, line) {
                 Ok(None)
             } else {
                 Err(Unwritten)
             }
         }
-        Stepped::End => Ok(Some(Ending::End(run.limits.horizon))),
-        Stepped::Stopped(stop) => Ok(Some(Ending::Stop(stop))),
+        Err(ending) => Ok(Some(ending)),
     }
 }
 
 /// Puts what is left of the report of a run that has ended.
 fn finish<K: Sink>(
-    run: &mut RunInProgress<'_>,
+    progress: &mut RunInProgress<'_>,
     sink: &mut K,
     ending: Ending,
 ) -> Result<Ending, Unwritten>
-    requires within { EndsIn run.old.flat.now ending }
-    requires spans { length run.old.account.running.spans ≡ length run.old.flat.now.rewards }
+    requires within { EndsIn progress.old.run.flat.now ending }
+    requires spans { length progress.old.run.account.running.spans
+        ≡ length progress.old.run.flat.now.rewards }
     ensures report { (o : Opened) (first : Option (List ℕ))
-        → IsOver o first (K.held sink.old) run.old ending
+        → IsOver o first (K.held sink.old) progress.old.run progress.old.pages ending
         → Reports result o first (K.held sink.new) }
     ensures cause { IfErr result (λ e. Rose (K.faults sink.old) (K.faults sink.new)) }
     ensures later { K.faults sink.old ≤ K.faults sink.new }
 {
+    let run = &progress.run;
     let (flat, tally) = (run.flat, run.account.tally());
-    if close(sink, &mut run.pages, flat, tally, run.count, ending) {
+    if close(sink, &mut progress.pages, flat, tally, run.count, ending) {
         Ok(ending)
     } else {
         Err(Unwritten)
@@ -110,18 +107,10 @@ impl<'a> Run<'a> {
         requires { IsInRange limits }
         ensures { IfOk result (λ r. r ≡ record { network = flat.now; seed = seed; limits = limits }) }
     {
-        let seq = Seq::open(alloc, flat, seed, limits)?;
-        let account = RewardAccount::open(alloc, flat, limits.horizon)?;
+        let run = CountedRun::open(alloc, flat, seed, limits)?;
         let pages = Pages::open(alloc)?;
         Ok(Run {
-            run: RunInProgress {
-                flat,
-                limits,
-                seq,
-                account,
-                pages,
-                count: 0,
-            },
+            progress: RunInProgress { run, pages },
         })
     }
 
@@ -132,12 +121,12 @@ impl<'a> Run<'a> {
         ensures cause { IfErr result (λ e. Rose (K.faults sink.old) (K.faults sink.new)) }
         ensures later { K.faults sink.old ≤ K.faults sink.new }
     {
-        let mut run = self.run;
-        run.flat.is_network();
+        let mut progress = self.progress;
+        progress.run.flat.is_network();
         'turns: loop {
-            match turn(&mut run, sink) {
+            match turn(&mut progress, sink) {
                 Ok(None) => {}
-                Ok(Some(ending)) => return finish(&mut run, sink, ending),
+                Ok(Some(ending)) => return finish(&mut progress, sink, ending),
                 Err(unwritten) => return Err(unwritten),
             }
         }

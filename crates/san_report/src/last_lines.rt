@@ -13,7 +13,7 @@ use san_net::Flat;
 use san_reward::{Tally, Worth};
 
 /// A reward's worth, which a run has only at its horizon.
-fn worth_at(tally: &Tally, ending: Ending, reward: u32) -> Option<Worth>
+pub fn worth_at(tally: &Tally, ending: Ending, reward: u32) -> Option<Worth>
     requires { reward < length tally.now.spans }
     ensures { result ≡ worths_by tally.now ending reward }
 {

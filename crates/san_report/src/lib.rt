@@ -1,7 +1,6 @@
 //! The lines of a report: each completion, the ending, and each reward; and how they go out.
 #![tactic(auto)]
 
-mod growing;
 mod last_lines;
 mod line;
 mod pages;
@@ -9,9 +8,10 @@ mod path;
 mod pieces;
 #[cfg(test)]
 mod tests;
+mod vec_sink;
 mod worth;
 
-pub use last_lines::close;
+pub use last_lines::{close, worth_at};
 pub use line::{ending_line, event_line, put_ending, put_event};
 pub use pages::{Line, Pages};
 pub use worth::{put_reward, reward_line};

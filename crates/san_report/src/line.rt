@@ -5,9 +5,9 @@ ghost use Rattle.san_net.specs.Laid.{acts_of};
 ghost use Rattle.san_report.specs.Lines.{ending_line, event_line, stop_line, timed_line, trap_word};
 ghost use Rattle.san_report.specs.Puts.{EndsIn, StopsIn, Wrote};
 
-use crate::growing::Growing;
 use crate::path::{act_name, leaf_path};
 use crate::pieces::put_pieces;
+use crate::vec_sink::VecSink;
 use itoa::Buffer;
 use san_base::{Ending, Event, NoMemory, Sink, Stop, Tick, Trap};
 use san_net::Flat;
@@ -43,7 +43,7 @@ pub fn event_line(alloc: Global, flat: &Flat, n: u64, event: Event) -> Result<Ve
     requires { event.act.0 < acts_of flat.now.parts }
     ensures { IfOk result (λ text. text.items ≡ event_line flat.now n event) }
 {
-    let mut text = Growing::new(alloc);
+    let mut text = VecSink::new(alloc);
     if put_event(&mut text, flat, n, event) {
         Ok(text.bytes)
     } else {
@@ -129,7 +129,7 @@ pub fn ending_line(alloc: Global, flat: &Flat, n: u64, ending: Ending) -> Result
     requires { EndsIn flat.now ending }
     ensures { IfOk result (λ text. text.items ≡ ending_line flat.now n ending) }
 {
-    let mut text = Growing::new(alloc);
+    let mut text = VecSink::new(alloc);
     if put_ending(&mut text, flat, n, ending) {
         Ok(text.bytes)
     } else {

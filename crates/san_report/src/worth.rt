@@ -5,8 +5,8 @@ ghost use Rattle.san_report.specs.Lines.{joined, reward_line};
 ghost use Rattle.san_reward.specs.declared.worth.Worth.TheVariants.{Mean};
 ghost use Rattle.san_report.specs.Puts.{Wrote};
 
-use crate::growing::Growing;
 use crate::pieces::put_pieces;
+use crate::vec_sink::VecSink;
 use itoa::Buffer;
 use san_base::{NoMemory, Sink};
 use san_net::Reward;
@@ -68,7 +68,7 @@ pub fn reward_line(
 ) -> Result<Vec<u8>, NoMemory>
     ensures { IfOk result (λ text. text.items ≡ reward_line reward.now.name worth) }
 {
-    let mut text = Growing::new(alloc);
+    let mut text = VecSink::new(alloc);
     if put_reward(&mut text, reward, worth) {
         Ok(text.bytes)
     } else {

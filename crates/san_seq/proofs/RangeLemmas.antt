@@ -144,9 +144,10 @@ pub record IsAt (i : ℕ) (rows : List Row) (d : Due) : Type 0 where
   pub leaf : d.leaf ≡ i + at
   pub inside : at < length rows
   pub act : d.act < length (row_at rows at).timers
+  pub is : least_timer (row_at rows at) ≡ Some (d.time, d.act)
 
 further : (i : ℕ) (r : Row) (rs : List Row) (d : Due) → IsAt (suc i) rs d → IsAt i (r ∷ rs) d
-further i r rs d a = record { at = suc a.at; leaf = omega (arith, a.leaf); inside = omega (arith, a.inside); act = a.act }
+further i r rs d a = record { at = suc a.at; leaf = omega (arith, a.leaf); inside = omega (arith, a.inside); act = a.act; is = a.is }
 
 due_at : (i : ℕ) (rows : List Row) (d : Due) → least_from i (map least_timer rows) ≡ Some d → IsAt i rows d
 due_at i [] d is = absurd cc
@@ -156,7 +157,7 @@ due_at i (r ∷ rs) d is = by_least (due_at (suc i) rs d) (least_timer r) refl i
     by_case more t has (inl e) =
         let leaf : i ≡ d.leaf = ap (λ (x : Due). x.leaf) e in
         let act : t.1 ≡ d.act = ap (λ (x : Due). x.act) e in
-        record { at = 0; leaf = omega (arith, leaf); inside = omega arith; act = subst (λ (n : ℕ). n < length r.timers) act (least_within r t has) }
+        record { at = 0; leaf = omega (arith, leaf); inside = omega arith; act = subst (λ (n : ℕ). n < length r.timers) act (least_within r t has); is = has ∙ ap (λ (x : Due). (let o : Option (ℕ × ℕ) = Some (x.time, x.act) in o)) e }
     by_case more t has (inr rest) = further i r rs d (more rest)
 
     by_least : (least_from (suc i) (map least_timer rs) ≡ Some d → IsAt (suc i) rs d) → (o : Option (ℕ × ℕ)) → least_timer r ≡ o → Rattle.san_law.specs.Renewal.and_sooner i o (least_from (suc i) (map least_timer rs)) ≡ Some d → IsAt i (r ∷ rs) d
@@ -169,6 +170,13 @@ due_within rows d is =
     let a = due_at 0 rows d is in
     let same : a.at ≡ d.leaf = omega (arith, a.leaf) in
     (omega (arith, a.inside, same), subst (λ (j : ℕ). d.act < length (row_at rows j).timers) same a.act)
+
+-- and it is the least of that leaf
+pub due_is : (rows : List Row) (d : Due) → least_from 0 (map least_timer rows) ≡ Some d → least_timer (row_at rows d.leaf) ≡ Some (d.time, d.act)
+due_is rows d is =
+    let a = due_at 0 rows d is in
+    let same : a.at ≡ d.leaf = omega (arith, a.leaf) in
+    subst (λ (j : ℕ). least_timer (row_at rows j) ≡ Some (d.time, d.act)) same a.is
 
 pub all_numbered : (terms : List ImpulseTerm) (k : ℕ) (acts : List Named) → length (activities_from terms k acts) ≡ length acts
 all_numbered terms k [] = refl

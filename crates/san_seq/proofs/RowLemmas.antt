@@ -15,7 +15,7 @@ use Rattle.san_net.specs.declared.part.Part.{Part}
 use Rattle.san_seq.specs.inner.Known.{AreFresh}
 use Rattle.san_clock.specs.Rows.{renewing_by}
 use Rattle.san_seq.specs.inner.Renewals.{renewed_part}
-use Rattle.san_seq.specs.inner.Rows.{AreDrawn, IsLike, row_at}
+use Rattle.san_seq.specs.inner.Rows.{AreDrawn, AreRows, IsLike, row_at}
 use Rattle.san_seq.proofs.NextLemmas.{cut}
 use Rattle.san_net.proofs.PartLemmas.{part_is, places_are}
 use Rattle.san_clock.proofs.RenewalLemmas.{all_taken, appended, ended, from_here, set_front, set_rest}
@@ -129,3 +129,10 @@ module _ (n : Network) (draw : ℕ → ℕ → ℕ) (limits : law.Limits) (s : S
       let at : from + (j - from) ≡ j = omega (arith, low) in
       rows_skipped (net_of n draw limits) s rows (j - from) from (omega (arith, h, low)) (λ i l u. idle_at i l (omega (arith, u, low, h, sized)) (down i l (omega (arith, u, low))))
       ∙ ap (λ (k : ℕ). in_front (take k rows) (renewed_from (net_of n draw limits) s k (drop k rows))) at
+
+-- rows that are like those of a network's leaves are such too
+pub rows_like : (parts : List Part) (old now : List Row) → AreRows parts old → length now ≡ length old → ((j : ℕ) → IsLike (row_at now j) (row_at old j)) → AreRows parts now
+rows_like parts old now are sized like = record {
+  each = sized ∙ are.each;
+  fit = λ j p is. (let was = are.fit j p is in let now_like = like j in record { timers = now_like.timers ∙ was.timers; delays = now_like.delays ∙ was.delays; cases = ap length now_like.cases ∙ was.cases });
+}

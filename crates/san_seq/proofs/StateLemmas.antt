@@ -1,19 +1,21 @@
 -- A completion in a state.
-use Rattle.std.proofs.Common.{ℕ, zero, suc, ◌+◌, ◌<◌, ◌≡◌, ◌∙◌, ap, refl, subst, List, [], ◌∷◌, length, Some, Result, Ok, Err, IfErr, slice_index_or, slice_set}
+use Rattle.std.proofs.Common.{ℕ, zero, suc, ◌+◌, ◌≡◌, ◌∙◌, ap, refl, subst, List, [], ◌∷◌, Some, Result, Ok, Err, IfErr, slice_index_or, slice_set}
 use Rattle.san_base.specs.declared.ending.Trap.{Trap}
-use Rattle.san_law.specs.Net.{Done, Net, Row, no_row}
+use Rattle.san_law.specs.Net.{Done, Net, Row}
 use Rattle.san_law.specs.State.{State, local_of, slots_of}
 use Rattle.san_law.specs.Step as law
 use Rattle.san_law.specs.Network.{Limits}
 use Rattle.san_net.specs.Network.{Network}
 use Rattle.san_seq.specs.inner.Completions.{completed_by, leaf_told, told_of}
 use Rattle.san_seq.specs.inner.Rows.{row_at}
-use Rattle.san_seq.proofs.RowLemmas.{any_row}
 use Rattle.san_seq.proofs.ToldLemmas.{Told, case_by, told_by}
 
 -- a state after a completion
+abbrev pub left_rows : State → ℕ → ℕ → List ℕ → List Row → State
+left_rows s burst j m rows = record { time = s.time; marking = m; stable = s.stable; rows = rows; burst = burst; last = Some j; count = s.count + 1 }
+
 abbrev pub left_with : State → ℕ → ℕ → List ℕ → Row → State
-left_with s burst j m row = record { time = s.time; marking = m; stable = s.stable; rows = slice_set s.rows j row; burst = burst; last = Some j; count = s.count + 1 }
+left_with s burst j m row = left_rows s burst j m (slice_set s.rows j row)
 
 module _ (net : Net) (s : State) (burst j k : ℕ) where
   -- by what the law's completion leaves
@@ -58,21 +60,16 @@ abbrev pub with_both : State → List ℕ → List Row → State
 with_both s m rows = record { time = s.time; marking = m; stable = s.stable; rows = rows; burst = s.burst; last = s.last; count = s.count }
 
 -- what a trap leaves is the state
-pub kept : (v s : State) (j : ℕ) (m : List ℕ) (row now : Row) → m ≡ v.marking → now ≡ row → row ≡ slice_index_or v.rows j row → v ≡ s → with_both v m (slice_set v.rows j now) ≡ s
-kept v s j m row now same still is e =
-    ap (λ (x : List ℕ). with_both v x (slice_set v.rows j now)) same
-    ∙ ap (with_both v v.marking) (ap (slice_set v.rows j) still ∙ put_same v.rows j row row is) ∙ e
+pub kept : (v s : State) (m : List ℕ) (rows : List Row) → m ≡ v.marking → rows ≡ v.rows → v ≡ s → with_both v m rows ≡ s
+kept v s m rows same still e = ap (λ (x : List ℕ). with_both v x rows) same ∙ ap (with_both v v.marking) still ∙ e
 
 pub if_err : (r : Result ℕ Trap) (trap : Trap) (P : Trap → Type 0) → r ≡ Err trap → IfErr r P → P trap
 if_err r trap P is holds = subst (λ (x : Result ℕ Trap). IfErr x P) is holds
 
--- the row that is lent is the state's
-pub lent : (v s : State) (j : ℕ) (row : Row) → row ≡ slice_index_or v.rows j row → v ≡ s → j < length s.rows → row ≡ row_at s.rows j
-lent v s j row is e h =
-    is ∙ ap (λ (x : State). slice_index_or x.rows j row) e ∙ any_row s.rows j row no_row h
-
 -- what the completion left, in the state's own words
-pub told_in : (n : Network) (draw : ℕ → ℕ → ℕ) (limits : Limits) (v s : State) (j k : ℕ) (row : Row) → row ≡ slice_index_or v.rows j row → v ≡ s → j < length s.rows
-    → leaf_told n draw limits j k v.marking row ≡ leaf_told n draw limits j k s.marking (row_at s.rows j)
-told_in n draw limits v s j k row is e h =
-    ap (λ (x : State). leaf_told n draw limits j k x.marking row) e ∙ ap (leaf_told n draw limits j k s.marking) (lent v s j row is e h)
+pub told_in : (n : Network) (draw : ℕ → ℕ → ℕ) (limits : Limits) (v s : State) (j k : ℕ) → v ≡ s
+    → leaf_told n draw limits j k v.marking (row_at v.rows j) ≡ leaf_told n draw limits j k s.marking (row_at s.rows j)
+told_in n draw limits v s j k e = ap (λ (x : State). leaf_told n draw limits j k x.marking (row_at x.rows j)) e
+
+pub left_is : (v s : State) (burst j : ℕ) (m : List ℕ) (rows : List Row) (row : Row) → rows ≡ slice_set v.rows j row → v ≡ s → left_rows v burst j m rows ≡ left_with s burst j m row
+left_is v s burst j m rows row set e = ap (left_rows v burst j m) set ∙ ap (λ (x : State). left_with x burst j m row) e

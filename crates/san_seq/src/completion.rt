@@ -95,6 +95,7 @@ fn complete_leaf(
     ensures done { completed_by result.0 result.1.items row.new
         ≡ part_told (draw_of streams.old.seed) part.now act marking.items row.old }
     ensures trap { IfErr result.0 (λ trap. (result.1.items ≡ marking.items) × (row.new ≡ row.old)) }
+    ensures timers { row.new.timers ≡ row.old.timers }
     ensures sized { length result.1.items ≡ length marking.items }
     ensures streams { streams.new ≡ streams.old }
 {
@@ -133,6 +134,7 @@ pub(crate) fn complete_at(
     ensures done { (limits : Limits) → completed_by result.0 result.1.items row.new
         ≡ leaf_told flat.now (draw_of streams.old.seed) limits leaf.0 act marking.items row.old }
     ensures trap { IfErr result.0 (λ trap. (result.1.items ≡ marking.items) × (row.new ≡ row.old)) }
+    ensures timers { row.new.timers ≡ row.old.timers }
     ensures sized { length result.1.items ≡ length marking.items }
     ensures streams { streams.new ≡ streams.old }
 {

@@ -2,10 +2,11 @@
 #![tactic(auto)]
 
 mod completion;
-mod due;
+mod fire;
 mod laws;
 mod next;
 mod renewal;
+mod rows;
 mod seq;
 mod stale;
 mod state;

@@ -15,6 +15,7 @@ ghost use Rattle.san_seq.specs.inner.Known.{AreFresh};
 ghost use Rattle.san_seq.specs.inner.Renewals.{renewed_part};
 ghost use Rattle.san_seq.specs.inner.Rows.{AreDrawn, AreRows, IsLike, IsRowOf, renewal_by, row_at};
 
+use crate::rows::Rows;
 use san_base::{LeafId, MAX_ACTS, Trap};
 use san_clock::{Renewal, Row, renew};
 use san_delay::DelayTables;
@@ -67,7 +68,7 @@ fn renew_leaf(
 }
 
 /// Renews the timers of a leaf of the network.
-fn renew_at(
+pub(crate) fn renew_at(
     flat: &Flat,
     tables: &DelayTables,
     streams: &mut Streams,
@@ -104,7 +105,7 @@ pub(crate) fn renew_rows(
     time: u64,
     stale: &Flags,
     markings: &Markings<'_>,
-    rows: &mut [Row],
+    rows: &mut Rows,
 ) -> Result<(), (LeafId, u32, Trap)>
     requires present { length markings.now.present.now ≡ length flat.now.initial }
     requires stable { length markings.now.stable.now ≡ length flat.now.initial }
@@ -129,7 +130,7 @@ pub(crate) fn renew_rows(
             None => return Ok(()),
             Some(j) => {
                 let leaf = LeafId(j as u32);
-                match renew_at(flat, tables, streams, time, leaf, markings, &mut rows[j]) {
+                match rows.renew(flat, tables, streams, time, leaf, markings) {
                     Ok(()) => from = j + 1,
                     Err(fault) => return Err((leaf, fault.0, fault.1)),
                 }

@@ -9,14 +9,13 @@ ghost use Rattle.san_seq.specs.Overs.{limits_in};
 ghost use Rattle.san_seq.specs.Telling.{stepped_of};
 ghost use Rattle.san_seq.specs.inner.Held as held;
 ghost use Rattle.san_seq.specs.inner.Nexts.{next_in};
-ghost use Rattle.san_seq.specs.inner.Openings.{rows_of};
 
 use crate::next::Next;
+use crate::rows::Rows;
 use crate::state::State;
 use crate::step::{next_of, step};
 use crate::steps::{Stable, Stepped, Trajectory};
 use san_base::{Ending, Event, Items, LeafId, Limits, NoMemory, Tick};
-use san_clock::Row;
 use san_delay::DelayTables;
 use san_draw::Streams;
 use san_expr::Dist;
@@ -24,18 +23,6 @@ use san_net::{ActKind, Flat};
 use san_winner::Flags;
 use std::alloc::Global;
 use std::marker::Model;
-
-/// The rows of all leaves before the first step.
-pub(crate) fn blanks(alloc: Global, flat: &Flat) -> Result<Vec<Row>, NoMemory>
-    ensures { IfOk result (λ rows. rows.items ≡ rows_of flat.now.parts) }
-{
-    let mut rows = Vec::with_capacity(alloc, flat.leaves() as usize)?;
-    'leaves: for j in 0..flat.leaves() {
-        let part = flat.part(LeafId(j)).get();
-        rows.push(Row::blank(alloc, part.atomic.get().acts.len())?)?;
-    }
-    Ok(rows)
-}
 
 /// The tables of all delays.
 pub(crate) fn tables(alloc: Global, flat: &Flat) -> Result<DelayTables, NoMemory> {
@@ -170,11 +157,12 @@ impl<'a> Seq<'a> {
         let streams = Streams::open(alloc, seed, 2 * flat.acts())?;
         let marking = flat.initial_marking(alloc)?;
         let stable = flat.initial_marking(alloc)?;
+        let rows = Rows::open(alloc, flat)?;
         let state = State {
             time: 0,
             marking,
             stable,
-            rows: blanks(alloc, flat)?,
+            rows,
             burst: 0,
             last: None,
             count: 0,

@@ -13,9 +13,8 @@ ghost use Rattle.san_seq.specs.Telling.{ending_in, told_of};
 ghost use Rattle.san_seq.specs.inner.Rows.{AreRows, row_at};
 ghost use Rattle.san_seq.specs.inner.States.{complete_in, instant_in};
 
-use crate::completion::complete_at;
+use crate::rows::Rows;
 use san_base::{Ending, Event, LeafId, Limits, Stop, Tick, Trap};
-use san_clock::Row;
 use san_draw::Streams;
 use san_net::Flat;
 use std::marker::Model;
@@ -27,7 +26,7 @@ pub(crate) struct State {
     pub(crate) time: u64,
     pub(crate) marking: Vec<u32>,
     pub(crate) stable: Vec<u32>,
-    pub(crate) rows: Vec<Row>,
+    pub(crate) rows: Rows,
     pub(crate) burst: u64,
     pub(crate) last: Option<LeafId>,
     pub(crate) count: u64,
@@ -39,7 +38,7 @@ impl Model for State {
 
     ghost Value = { law.State };
 
-    ghost view = { λ s. record { time = s.time; marking = s.marking.items; stable = s.stable.items; rows = s.rows.items; burst = s.burst; last = option_map (λ leaf. leaf.0) s.last; count = s.count } };
+    ghost view = { λ s. record { time = s.time; marking = s.marking.items; stable = s.stable.items; rows = s.rows; burst = s.burst; last = option_map (λ leaf. leaf.0) s.last; count = s.count } };
 }
 
 /// The ending of a run by an activity that traps at a time.
@@ -74,8 +73,7 @@ pub(crate) fn complete(
     ensures streams { streams.new ≡ streams.old }
 {
     let mut rows = state.rows;
-    let row = &mut rows[leaf.0 as usize];
-    let (case, marking) = complete_at(flat, streams, leaf, act, row, state.marking);
+    let (case, marking) = rows.complete(flat, streams, leaf, act, state.marking);
     match case {
         Ok(case) => {
             let event = Event {

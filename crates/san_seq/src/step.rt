@@ -18,9 +18,10 @@ ghost use Rattle.san_seq.specs.Overs.{limits_in};
 ghost use Rattle.san_seq.specs.inner.Rows.{AreDrawn, AreRows, IsLike, renewal_by, row_at};
 ghost use Rattle.san_seq.specs.inner.Running.{IsDrawn, IsRunning, Steps, with_rows};
 
-use crate::due::{Due, fire, least_due};
+use crate::fire::fire;
 use crate::next::{Next, next_instant};
 use crate::renewal::{Markings, renew_rows};
+use crate::rows::Due;
 use crate::stale::touch;
 use crate::state::{State, complete_instant, complete_timed, trapped};
 use san_base::{Ending, Event, LeafId, Limits, Trap};
@@ -74,13 +75,7 @@ fn renew(
         present: state.marking.as_slice(),
     };
     let done = renew_rows(
-        flat,
-        tables,
-        streams,
-        state.time,
-        stale,
-        &markings,
-        rows.as_mut_slice(),
+        flat, tables, streams, state.time, stale, &markings, &mut rows,
     );
     (done, State { rows, ..state })
 }
@@ -145,7 +140,7 @@ fn at_rest(
     flat.is_network();
     let (done, left) = renew(flat, tables, streams, stale, state);
     match done {
-        Ok(()) => match least_due(left.rows.as_slice()) {
+        Ok(()) => match left.rows.least() {
             Some(due) => at_due(flat, streams, limits, stale, due, left),
             None => (Err(Ending::End(limits.horizon)), left),
         },

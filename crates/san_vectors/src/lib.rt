@@ -11,11 +11,15 @@ mod flattened;
 #[cfg(test)]
 mod lines;
 #[cfg(test)]
+mod logs;
+#[cfg(test)]
 mod models;
 #[cfg(test)]
 mod network;
 #[cfg(test)]
 mod orders;
+#[cfg(test)]
+mod overlays;
 #[cfg(test)]
 mod parts;
 #[cfg(test)]

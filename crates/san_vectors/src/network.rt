@@ -4,11 +4,11 @@ ghost use Rattle.std.specs.Prelude.{◌≡◌, ◌≤◌, [], ◌∷◌, IfOk};
 ghost use Rattle.san_net.specs.Examples.{get_part, getter, moving, one_case, put_and_get, put_part, putter, taking};
 ghost use Rattle.san_net.specs.declared.activity.Output.TheVariants as output;
 
-use san_base::{ActId, LeafId, Name, NoMemory, PlaceId, Shared, Tick};
+use san_base::{ActId, LeafId, Name, NoMemory, PlaceId, Same, Shared, Tick};
 use san_expr::{Dist, Expr, Items};
 use san_net::{
-    ActKind, Activity, Atomic, Case, Flat, Input, Output, Part, Path, Reward, Slot, Span, instants,
-    two_leaves_are_a_network,
+    ActKind, Activity, Atomic, Case, Flat, Input, Output, Part, Path, Reward, Slot, Span,
+    example_network, instants,
 };
 use std::alloc::Global;
 use std::test::Fail;
@@ -141,7 +141,7 @@ pub(crate) fn put_and_get(alloc: Global) -> Result<Flat, NoMemory>
         span: Span::At(Tick(6)),
     })?;
     let initial = Vec::from_slice(alloc, &[0, 1, 0])?;
-    two_leaves_are_a_network();
+    example_network();
     Flat::assemble(alloc, parts, paths, initial, 1, rewards)
 }
 

@@ -1,13 +1,14 @@
 -- A run under way: how it stands for a state of the law's run, and what of its report is still to come.
-use Rattle.std.specs.Prelude.{ℕ, ◌≡◌, ◌≤◌, ◌<◌, ◌++◌, List, [], length, Option, Some, None, Result, Ok, Err}
+use Rattle.std.specs.Prelude.{ℕ, ◌≡◌, ◌≤◌, ◌<◌, ◌++◌, List, [], ◌∷◌, length, Option, Some, None, Result, Ok, Err}
 use Rattle.san_base.specs.Flow.{AppendsPrefix}
 use Rattle.san_base.specs.Limits.{IsInRange}
 use Rattle.san_base.specs.declared.ending.Ending.{Ending}
+use Rattle.san_base.specs.declared.ending.Event.{Event}
 use Rattle.san_law.specs.Standing.{Counts}
 use Rattle.san_law.specs.State.{State, opening_state}
 use Rattle.san_law.specs.Step as law
 use Rattle.san_law.specs.Trajectory.{Runs, Trajectory, trajectory}
-use Rattle.san_net.specs.Laid.{IsNetwork}
+use Rattle.san_net.specs.Laid.{IsNetwork, acts_of}
 use Rattle.san_report.specs.Lines.{ending_line, reward_lines}
 use Rattle.san_report.specs.Puts.{EndsIn}
 use Rattle.san_reward.specs.Running.{IsOf, rates_in}
@@ -15,21 +16,21 @@ use Rattle.san_plain.specs.inner.Accounts.{RewardAccount, opened_account}
 use Rattle.san_report.specs.Closings.{closing}
 use Rattle.san_report.specs.Pages.{Sent}
 use Rattle.san_plain.specs.Reports.{Opened, ending_of, event_lines, net_by, report_of, worth_at}
+use Rattle.san_plain.specs.declared.counted.CountedRun.{CountedRun}
 use Rattle.san_plain.specs.declared.run.RunInProgress.{RunInProgress}
 use Rattle.san_plain.specs.declared.run.Unwritten.{Unwritten}
 use Rattle.san_seq.specs.FlatRun.{On, Run, opening, steps_left}
-use Rattle.san_seq.specs.Telling.{ending_in}
+use Rattle.san_seq.specs.Telling.{ending_in, event_in}
 
--- the run that a course was opened for
-abbrev pub opened_by : RunInProgress → Opened
+-- the run that it was opened for
+abbrev pub opened_by : CountedRun → Opened
 opened_by c = record { network = c.flat.now; seed = c.seq.seed; limits = c.limits }
 
--- no event came yet, and nothing was put
-pub record IsOpened (c : RunInProgress) : Type 0 where
+-- no event came yet
+pub record IsOpened (c : CountedRun) : Type 0 where
   pub range : IsInRange c.limits
   pub run : c.seq ≡ opening c.flat.now c.seq.seed c.limits
   pub rewards : c.account ≡ opened_account c.flat.now c.limits.horizon.0
-  pub page : c.pages ≡ []
   pub none : c.count ≡ 0
 
 -- an account has counted the events of a run that came to a state
@@ -46,7 +47,7 @@ abbrev pub run_at : Opened → State → Run
 run_at o s = record { network = o.network; seed = o.seed; limits = o.limits; going = On s }
 
 -- a run stands for a state that the law's run comes to by these events
-pub record Stands (o : Opened) (es : List law.Event) (s : State) (c : RunInProgress) : Type 0 where
+pub record Stands (o : Opened) (es : List law.Event) (s : State) (c : CountedRun) : Type 0 where
   pub known : IsNetwork o.network
   pub range : IsInRange o.limits
   pub of_network : c.flat.now ≡ o.network
@@ -57,8 +58,34 @@ pub record Stands (o : Opened) (es : List law.Event) (s : State) (c : RunInProgr
   pub many : c.count ≡ length es
 
 -- it does for some state of some run
-abbrev pub IsStanding : RunInProgress → Type 0
+abbrev pub IsStanding : CountedRun → Type 0
 IsStanding c = (o : Opened) × (es : List law.Event) × (s : State) × Stands o es s c
+
+-- a step with an event
+pub record Happens (o : Opened) (es : List law.Event) (s : State) (event : Event) (old new : CountedRun) : Type 0 where
+  pub happened : law.Event
+  pub happens : (law.step (net_by o) s).0 ≡ law.Happened happened
+  pub event_is : event_in o.network happened ≡ event
+  pub stands : Stands o (es ++ happened ∷ []) (law.step (net_by o) s).1 new
+  pub fewer : steps_left new.seq < steps_left old.seq
+  pub inside : event.act.0 < acts_of new.flat.now.parts
+
+-- a step with the ending
+pub record Ends (o : Opened) (s : State) (e : Ending) (old new : CountedRun) : Type 0 where
+  pub time : ℕ
+  pub why : law.Ending
+  pub over : (law.step (net_by o) s).0 ≡ law.Over time why
+  pub ending_is : ending_in o.network time why ≡ e
+  pub kept : new ≡ record old { seq = new.seq }
+
+abbrev pub StepsTo : Opened → List law.Event → State → Result Event Ending → CountedRun → CountedRun → Type 0
+StepsTo o es s (Ok event) old new = Happens o es s event old new
+StepsTo o es s (Err e) old new = Ends o s e old new
+
+-- no event came yet, and nothing was put
+pub record IsUnwritten (p : RunInProgress) : Type 0 where
+  pub run : IsOpened p.run
+  pub page : p.pages ≡ []
 
 -- what is left of a report after events, by the rest of the run
 abbrev pub left_after : Opened → List law.Event → Option Trajectory → List ℕ
@@ -67,17 +94,17 @@ left_after o es (Some t) = event_lines o.network (length es) t.events ++ (ending
 
 -- of the report all lines up to a run's state were put
 abbrev pub IsUnderWay : Opened → Option (List ℕ) → Option (List ℕ) → RunInProgress → Type 0
-IsUnderWay o first now c = (es : List law.Event) × (s : State) × Stands o es s c × Sent first now c.pages (report_of o) (left_after o es (trajectory (net_by o) s))
+IsUnderWay o first now c = (es : List law.Event) × (s : State) × Stands o es s c.run × Sent first now c.pages (report_of o) (left_after o es (trajectory (net_by o) s))
 
 -- a run has ended, and of its report all but the closing lines were put
-pub record IsOver (o : Opened) (first now : Option (List ℕ)) (c : RunInProgress) (e : Ending) : Type 0 where
+pub record IsOver (o : Opened) (first now : Option (List ℕ)) (c : CountedRun) (page : List ℕ) (e : Ending) : Type 0 where
   pub outcome : ending_of o ≡ Some e
   pub within : EndsIn c.flat.now e
   pub spans : length c.account.running.spans ≡ length c.flat.now.rewards
-  pub put : Sent first now c.pages (report_of o) (closing c.flat.now c.account.running c.count e)
+  pub put : Sent first now page (report_of o) (closing c.flat.now c.account.running c.count e)
 
 -- after a turn: the run goes on, with fewer steps to come, or has ended; or the sink failed
 abbrev pub TurnedTo : Opened → Option (List ℕ) → Result (Option Ending) Unwritten → Option (List ℕ) → RunInProgress → RunInProgress → Type 0
-TurnedTo o first (Ok None) now old c = IsUnderWay o first now c × (steps_left c.seq < steps_left old.seq)
-TurnedTo o first (Ok (Some e)) now old c = IsOver o first now c e
+TurnedTo o first (Ok None) now old c = IsUnderWay o first now c × (steps_left c.run.seq < steps_left old.run.seq)
+TurnedTo o first (Ok (Some e)) now old c = IsOver o first now c.run c.pages e
 TurnedTo o first (Err fault) now old c = AppendsPrefix first now (report_of o)

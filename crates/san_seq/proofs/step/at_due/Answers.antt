@@ -7,6 +7,7 @@ use Rattle.san_seq.specs.inner.Dues.{due_in}
 use Rattle.san_seq.specs.Overs.{limits_in}
 use Rattle.san_seq.specs.inner.Running.{IsDrawn}
 use Rattle.san_seq.proofs.KnownLemmas.{fire_sized, if_told, timed_known}
+use Rattle.san_seq.proofs.RangeLemmas.{rows_small}
 use Rattle.san_seq.proofs.RunningLemmas.{counted_small, fired_drawn}
 use Rattle.san_seq.proofs.SteppingLemmas.{due_fires, steps_like, timed_runs}
 use Rattle.san_seq.proofs.step.at_due.Goals as goal
@@ -95,3 +96,6 @@ returns-then-due-limits-clause-known c =
     (c.deref.ensures.value ∙ ap (λ (x : State). x.stable) c.left.view_is) (c.deref-then-due-limits.ensures.value ∙ ap (λ (x : State). x.marking) c.left.view_is)
     (c.fire-then.ensures.flags ∙ c.requires.flags) c.touch.ensures.own c.touch.ensures.touched
     c.args.state d u t refl c.requires.drawn.marking (c.fire-then.ensures.fired net) c.requires.quiet c.complete_timed-answer.ensures.left e)
+
+pub fire-then-requires-clause-small : goal.fire-then-requires-clause-small
+fire-then-requires-clause-small c = rows_small c.args.flat.now c.args.state.rows c.is_network.ensures.network c.requires.drawn.rows c.args.due.leaf.0

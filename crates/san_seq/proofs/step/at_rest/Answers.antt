@@ -21,28 +21,28 @@ use Rattle.san_seq.proofs.WithinLemmas.{fault_within}
 use Rattle.san_seq.proofs.SteppingLemmas.{ends_like}
 use Rattle.san_seq.proofs.step.at_rest.Goals as goal
 
-pub least_due-requires-clause-small : goal.least_due-requires-clause-small
-least_due-requires-clause-small c =
-    let was = c.as_slice.ensures.value ∙ ap (λ (x : State). x.rows) c.left.view_is in
+pub least-requires-clause-small : goal.least-requires-clause-small
+least-requires-clause-small c =
+    let was = ap (λ (x : State). x.rows) c.left.view_is in
     let drawn = renewed_drawn c.args.flat.now c.args.limits.now c.args.state c.renew-done.result.1.rows c.requires.running c.renew-done.ensures.sized c.renew-done.ensures.like c.renew-done.ensures.numbers in
     λ j. subst (λ (rs : List Row). length (row_at rs j).timers ≤ 65536) (sym was) (rows_small c.args.flat.now c.renew-done.result.1.rows c.is_network.ensures.network drawn.rows j)
 
 pub at_due-requires-clause-leaf : goal.at_due-requires-clause-leaf
 at_due-requires-clause-leaf c =
-    let was = c.as_slice.ensures.value ∙ ap (λ (x : State). x.rows) c.left.view_is in
-    (due_within c.renew-done.result.1.rows (due_in c.in-Some.due) (sym (ap (λ (rs : List Row). law.least_from 0 (map least_timer rs)) was) ∙ sym c.least_due.ensures ∙ ap (option_map due_in) c.in-Some.is)).0
+    let was = ap (λ (x : State). x.rows) c.left.view_is in
+    (due_within c.renew-done.result.1.rows (due_in c.in-Some.due) (sym (ap (λ (rs : List Row). law.least_from 0 (map least_timer rs)) was) ∙ sym c.least.ensures ∙ ap (option_map due_in) c.in-Some.is)).0
 
 pub at_due-requires-clause-act : goal.at_due-requires-clause-act
 at_due-requires-clause-act c =
-    let was = c.as_slice.ensures.value ∙ ap (λ (x : State). x.rows) c.left.view_is in
-    (due_within c.renew-done.result.1.rows (due_in c.in-Some.due) (sym (ap (λ (rs : List Row). law.least_from 0 (map least_timer rs)) was) ∙ sym c.least_due.ensures ∙ ap (option_map due_in) c.in-Some.is)).1
+    let was = ap (λ (x : State). x.rows) c.left.view_is in
+    (due_within c.renew-done.result.1.rows (due_in c.in-Some.due) (sym (ap (λ (rs : List Row). law.least_from 0 (map least_timer rs)) was) ∙ sym c.least.ensures ∙ ap (option_map due_in) c.in-Some.is)).1
 
 pub returns-in-Some-clause-steps : goal.returns-in-Some-clause-steps
 returns-in-Some-clause-steps c =
     let net = net_of c.args.flat.now (draw_of c.args.streams.now.seed) (limits_in c.args.limits.now) in
     let rows = c.renew-done.result.1.rows in
-    let was = c.as_slice.ensures.value ∙ ap (λ (x : State). x.rows) c.left.view_is in
-    let least = sym (ap (λ (rs : List Row). law.least_from 0 (map least_timer rs)) was) ∙ sym c.least_due.ensures ∙ ap (option_map due_in) c.in-Some.is in
+    let was = ap (λ (x : State). x.rows) c.left.view_is in
+    let least = sym (ap (λ (rs : List Row). law.least_from 0 (map least_timer rs)) was) ∙ sym c.least.ensures ∙ ap (option_map due_in) c.in-Some.is in
     let fresh = sym (c.renew-done.ensures.rows (limits_in c.args.limits.now)) ∙ ap (λ (r : Result (Unit {0}) (LeafId × ℕ × Trap)). renewal_by r rows) c.in-Ok.is in
     let seed = ap (λ x. x.seed) c.renew-done.ensures.streams in
     subst (λ (x : Stepped × State). Steps c.args.flat.now c.at_due.result.0 c.at_due.result.1 x) (ap (at_due net c.args.state rows) (sym least) ∙ ap (at_rest net c.args.state) (sym fresh))
@@ -53,8 +53,8 @@ pub returns-in-None-clause-steps : goal.returns-in-None-clause-steps
 returns-in-None-clause-steps c =
     let net = net_of c.args.flat.now (draw_of c.args.streams.now.seed) (limits_in c.args.limits.now) in
     let rows = c.renew-done.result.1.rows in
-    let was = c.as_slice.ensures.value ∙ ap (λ (x : State). x.rows) c.left.view_is in
-    let least = sym (ap (λ (rs : List Row). law.least_from 0 (map least_timer rs)) was) ∙ sym c.least_due.ensures ∙ ap (option_map due_in) c.in-None.is in
+    let was = ap (λ (x : State). x.rows) c.left.view_is in
+    let least = sym (ap (λ (rs : List Row). law.least_from 0 (map least_timer rs)) was) ∙ sym c.least.ensures ∙ ap (option_map due_in) c.in-None.is in
     let fresh = sym (c.renew-done.ensures.rows (limits_in c.args.limits.now)) ∙ ap (λ (r : Result (Unit {0}) (LeafId × ℕ × Trap)). renewal_by r rows) c.in-Ok.is in
     let over = ap (at_rest net c.args.state) fresh ∙ ap (at_due net c.args.state rows) least in
     ends_like c.args.flat.now c.renew-done.result.1 _ c.args.limits.now.horizon.0 End (at_rest net c.args.state (law.renewed_from net c.args.state 0 c.args.state.rows)) refl

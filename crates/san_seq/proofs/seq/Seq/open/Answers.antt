@@ -12,7 +12,7 @@ invariant_of-result c =
       range = c.requires;
       draws = omega (arith, many, c.acts.ensures);
       going = (
-        state_runs c.args.flat.now c.args.limits c.in_ok-marking.marking.items c.in_ok-stable.stable.items c.in_ok-blanks.field-0.items c.in_ok-marking.ensures c.in_ok-stable.ensures c.in_ok-blanks.ensures,
+        state_runs c.args.flat.now c.args.limits c.in_ok-marking.marking.items c.in_ok-stable.stable.items c.in_ok-rows.rows c.in_ok-marking.ensures c.in_ok-stable.ensures c.in_ok-rows.ensures,
         all_are_stale c.args.flat.now (draw_of c.in_ok-streams.streams.seed) c.in_ok-stale.stale _ (c.in_ok-stale.ensures ∙ ap (λ (k : ℕ). replicate k true) c.leaves.ensures),
       );
     }
@@ -21,4 +21,4 @@ pub returns : goal.returns
 returns c =
     begun_is c.args.flat.now c.args.limits c.in_ok-streams.streams.seed c.args.seed _
     (ap (λ s. s.seed) c.in_ok-streams.ensures)
-    (state_is c.args.flat.now (draw_of c.args.seed) (limits_in c.args.limits) c.in_ok-marking.marking.items c.in_ok-stable.stable.items c.in_ok-blanks.field-0.items c.in_ok-marking.ensures c.in_ok-stable.ensures c.in_ok-blanks.ensures)
+    (state_is c.args.flat.now (draw_of c.args.seed) (limits_in c.args.limits) c.in_ok-marking.marking.items c.in_ok-stable.stable.items c.in_ok-rows.rows c.in_ok-marking.ensures c.in_ok-stable.ensures c.in_ok-rows.ensures)

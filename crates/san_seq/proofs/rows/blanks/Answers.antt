@@ -1,7 +1,7 @@
 use Rattle.std.proofs.Common.{◌∙◌, ap, sym, length, Some}
 use Rattle.san_net.specs.declared.part.Part.{Part}
 use Rattle.san_seq.proofs.OpeningLemmas.{row_more}
-use Rattle.san_seq.proofs.seq.blanks.Goals as goal
+use Rattle.san_seq.proofs.rows.blanks.Goals as goal
 
 pub leaves-preserved : goal.leaves-preserved
 leaves-preserved c =

@@ -7,23 +7,23 @@ use std::alloc::Global;
 
 /// A sink in memory that grows, and fails where memory runs out.
 #[derive(Drop)]
-pub(crate) struct Growing {
+pub(crate) struct VecSink {
     pub(crate) bytes: Vec<u8>,
     faults: u64,
 }
 
-impl Growing {
-    pub(crate) fn new(alloc: Global) -> Growing
+impl VecSink {
+    pub(crate) fn new(alloc: Global) -> VecSink
         ensures { result.bytes.items ≡ [] }
     {
-        Growing {
+        VecSink {
             bytes: Vec::new(alloc),
             faults: 0,
         }
     }
 }
 
-impl Sink for Growing {
+impl Sink for VecSink {
     ghost held = { λ s. Some s.bytes.items };
 
     ghost faults = { λ s. s.faults };

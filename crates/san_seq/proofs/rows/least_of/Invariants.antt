@@ -2,7 +2,7 @@ use Rattle.std.proofs.Common.{◌≡◌, ◌≤◌, length, map, drop}
 use Rattle.std.specs.Option.{option_map}
 use Rattle.san_law.specs.Net.{least_timer_from}
 use Rattle.san_clock.specs.Rows.{timer_in}
-use Rattle.san_seq.proofs.due.least_of.Given as goal
+use Rattle.san_seq.proofs.rows.least_of.Given as goal
 
 abbrev pub invariant-acts : goal.invariant-acts
 invariant-acts l = record {

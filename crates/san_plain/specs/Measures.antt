@@ -1,0 +1,29 @@
+-- What a run comes to without its report.
+use Rattle.std.specs.Prelude.{ℕ, suc, List, [], ◌∷◌, Option}
+use Rattle.std.specs.Option.{option_map}
+use Rattle.san_base.specs.declared.ending.Ending.{Ending}
+use Rattle.san_law.specs.Net.{Net}
+use Rattle.san_law.specs.State.{opening_state}
+use Rattle.san_law.specs.Trajectory.{Trajectory, trajectory}
+use Rattle.san_net.specs.Network.{Network}
+use Rattle.san_net.specs.declared.part.Reward.{Reward}
+use Rattle.san_reward.specs.declared.worth.Worth.{Worth}
+use Rattle.san_seq.specs.Telling.{ending_in}
+use Rattle.san_plain.specs.Reports.{Opened, net_by, worth_at}
+
+-- how a run ended, and the worth of each reward, unless it stopped
+pub record Measured : Type 0 where
+  pub ending : Ending
+  pub worths : List (Option Worth)
+
+-- the worths of rewards that are numbered from r on
+abbrev pub worths_from : List Reward → ℕ → (ℕ → Option Worth) → List (Option Worth)
+worths_from [] r worth = []
+worths_from (x ∷ xs) r worth = worth r ∷ worths_from xs (suc r) worth
+
+abbrev pub measured_by : Network → Net → Trajectory → Measured
+measured_by n net t = record { ending = ending_in n t.time t.ending; worths = worths_from n.rewards 0 (worth_at net t.events t.ending) }
+
+-- every run has a trajectory
+abbrev pub measured_of : Opened → Option Measured
+measured_of o = option_map (measured_by o.network (net_by o)) (trajectory (net_by o) (opening_state (net_by o)))
