@@ -17,6 +17,8 @@ mod models;
 #[cfg(test)]
 mod network;
 #[cfg(test)]
+mod orders;
+#[cfg(test)]
 mod overlays;
 #[cfg(test)]
 mod parts;
