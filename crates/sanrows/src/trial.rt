@@ -260,7 +260,7 @@ fn text_of(alloc: Global, row: &Row<'_>) -> Result<Vec<u8>, NoMemory> {
 }
 
 /// What a row's calls must come to; none where its status is no number.
-fn wanted<'a>(row: &Row<'a>) -> Option<Wanted<'a>> {
+fn wanted_of<'a>(row: &Row<'a>) -> Option<Wanted<'a>> {
     let begins = row.value("begins").is_some();
     let notes = if begins {
         row.notes.strip_suffix("\n").unwrap_or(row.notes)
@@ -277,9 +277,9 @@ fn wanted<'a>(row: &Row<'a>) -> Option<Wanted<'a>> {
 }
 
 /// A row's trial; none where a setting can't be read.
-fn trial<'a>(alloc: Global, row: &Row<'a>) -> Result<Option<Trial<'a>>, NoMemory> {
+fn trial_of<'a>(alloc: Global, row: &Row<'a>) -> Result<Option<Trial<'a>>, NoMemory> {
     let lists = Lists::read(alloc, row)?;
-    match (are_known(row), wanted(row), lists) {
+    match (are_known(row), wanted_of(row), lists) {
         (true, Some(wanted), Some(lists)) => Ok(Some(Trial {
             wanted,
             lists,
@@ -291,7 +291,7 @@ fn trial<'a>(alloc: Global, row: &Row<'a>) -> Result<Option<Trial<'a>>, NoMemory
 
 /// What of a row doesn't come true.
 pub(crate) fn fault_of(alloc: Global, row: &Row<'_>) -> Result<Option<Fault>, NoMemory> {
-    let Some(mut trial) = trial(alloc, row)? else {
+    let Some(mut trial) = trial_of(alloc, row)? else {
         return Ok(Some("has a setting that can't be read"));
     };
     if row.value("calls").is_none() {
