@@ -48,7 +48,7 @@ fn tell(rt: &HostRuntime, alloc: Global, piece: &str) -> io::Result<bool> {
             Ok(true)
         }
         Ok(Some(fault)) => {
-            println!(rt; "row {name} {fault}")?;
+            println!(rt; "row {name} {}", fault.text())?;
             Ok(false)
         }
         Err(_) => {

@@ -11,7 +11,33 @@ use std::alloc::Global;
 const LONG_OUTPUT: usize = 1_048_576;
 
 /// What of a row doesn't come true.
-type Fault = &'static str;
+#[derive(Clone, Copy)]
+pub(crate) enum Fault {
+    Settings,
+    NoCall,
+    UnknownCall,
+    Status,
+    Output,
+    Notes,
+    Reads,
+    Outputs,
+}
+
+impl Fault {
+    /// What is told of a row behind its name.
+    pub(crate) fn text(self) -> &'static str {
+        match self {
+            Fault::Settings => "has a setting that can't be read",
+            Fault::NoCall => "names no call",
+            Fault::UnknownCall => "names an unknown call",
+            Fault::Status => "has another status",
+            Fault::Output => "has another output",
+            Fault::Notes => "has other notes",
+            Fault::Reads => "reads its source",
+            Fault::Outputs => "has different outputs",
+        }
+    }
+}
 
 /// The status of a call whose words aren't taken.
 const WORDS: u8 = 2;
@@ -55,13 +81,13 @@ impl<'a> Wanted<'a> {
     /// What of a call isn't as it must be. Where words aren't taken, nothing is read.
     fn fault(&self, call: &Call<'_>, ran: &Ran) -> Option<Fault> {
         if ran.status != self.status {
-            Some("has another status")
+            Some(Fault::Status)
         } else if !self.has_output(call, ran) {
-            Some("has another output")
+            Some(Fault::Output)
         } else if !self.has_notes(call, ran) {
-            Some("has other notes")
+            Some(Fault::Notes)
         } else if self.status == WORDS && ran.reads > 0 {
-            Some("reads its source")
+            Some(Fault::Reads)
         } else {
             None
         }
@@ -120,7 +146,6 @@ impl Lists {
 #[derive(Drop)]
 struct Trial<'a> {
     wanted: Wanted<'a>,
-    lists: Lists,
     /// The output of the first call, to which all others come too.
     first: Option<Vec<u8>>,
 }
@@ -137,18 +162,38 @@ impl<'a> Trial<'a> {
         }
     }
 
+    /// The fault of a call on a text.
+    fn fault_once(
+        &mut self,
+        alloc: Global,
+        call: &Call<'a>,
+        text: &[u8],
+    ) -> Result<Option<Fault>, NoMemory> {
+        let Some(ran) = call.run(alloc, text)? else {
+            return Ok(Some(Fault::UnknownCall));
+        };
+        if let Some(fault) = self.wanted.fault(call, &ran) {
+            return Ok(Some(fault));
+        }
+        if call.failing.is_none() && !self.is_the_first(ran.output) {
+            return Ok(Some(Fault::Outputs));
+        }
+        Ok(None)
+    }
+
     /// The fault of a call on a text, in each of the lists' settings.
     fn fault(
         &mut self,
         alloc: Global,
-        call: &Call<'_>,
+        lists: &Lists,
+        call: &Call<'a>,
         text: &[u8],
     ) -> Result<Option<Fault>, NoMemory> {
-        for bytes in 0..self.lists.bytes.len() {
-            for failing in 0..self.lists.failing.len() {
+        for bytes in lists.bytes.iter() {
+            for failing in lists.failing.iter() {
                 let call = Call {
-                    bytes: self.lists.bytes[bytes],
-                    failing: self.lists.failing[failing],
+                    bytes: *bytes,
+                    failing: *failing,
                     ..*call
                 };
                 let fault = self.fault_once(alloc, &call, text)?;
@@ -160,51 +205,28 @@ impl<'a> Trial<'a> {
         Ok(None)
     }
 
-    fn fault_once(
+    /// The fault of a call with each value of the option that the row tries, which `run` takes.
+    fn fault_by_options(
         &mut self,
         alloc: Global,
-        call: &Call<'_>,
+        lists: &Lists,
+        row: &Row<'a>,
+        call: &Call<'a>,
         text: &[u8],
     ) -> Result<Option<Fault>, NoMemory> {
-        let Some(ran) = call.run(alloc, text)? else {
-            return Ok(Some("names an unknown call"));
+        let each = row.value("each").unwrap_or("");
+        let Some((option, values)) = each.split_once(" ") else {
+            return self.fault(alloc, lists, call, text);
         };
-        if let Some(fault) = self.wanted.fault(call, &ran) {
-            return Ok(Some(fault));
+        if call.name != "run" {
+            return self.fault(alloc, lists, call, text);
         }
-        if call.failing.is_none() && !self.is_the_first(ran.output) {
-            return Ok(Some("has different outputs"));
-        }
-        Ok(None)
-    }
-
-    /// The fault of the calls that a row names, on a text.
-    fn fault_by_calls(
-        &mut self,
-        alloc: Global,
-        row: &Row<'_>,
-        text: &[u8],
-    ) -> Result<Option<Fault>, NoMemory> {
-        let room = if self.wanted.ends {
-            LONG_OUTPUT
-        } else {
-            self.wanted.output.len().saturating_add(SPARE_BYTES)
-        };
-        for name in row.value("calls").unwrap_or("").split_whitespace() {
-            let words = if name == "show" {
-                "show-words"
-            } else {
-                "words"
-            };
+        for value in values.split_whitespace() {
             let call = Call {
-                name,
-                words: row.value(words).unwrap_or(""),
-                option: None,
-                bytes: 0,
-                failing: None,
-                room,
+                option: Some((option, value)),
+                ..*call
             };
-            let fault = self.fault_by_options(alloc, row, &call, text)?;
+            let fault = self.fault(alloc, lists, &call, text)?;
             if fault.is_some() {
                 return Ok(fault);
             }
@@ -212,26 +234,39 @@ impl<'a> Trial<'a> {
         Ok(None)
     }
 
-    /// The fault of a call with each value of the option that the row tries, which `run` takes.
-    fn fault_by_options(
+    /// The call of this name that a row makes, its settings apart.
+    fn call_of(&self, row: &Row<'a>, name: &'a str) -> Call<'a> {
+        let words = if name == "show" {
+            "show-words"
+        } else {
+            "words"
+        };
+        let room = if self.wanted.ends {
+            LONG_OUTPUT
+        } else {
+            self.wanted.output.len().saturating_add(SPARE_BYTES)
+        };
+        Call {
+            name,
+            words: row.value(words).unwrap_or(""),
+            option: None,
+            bytes: 0,
+            failing: None,
+            room,
+        }
+    }
+
+    /// The fault of the calls that a row names, on a text.
+    fn fault_by_calls(
         &mut self,
         alloc: Global,
-        row: &Row<'_>,
-        call: &Call<'_>,
+        lists: &Lists,
+        row: &Row<'a>,
         text: &[u8],
     ) -> Result<Option<Fault>, NoMemory> {
-        let Some((option, values)) = row.value("each").unwrap_or("").split_once(" ") else {
-            return self.fault(alloc, call, text);
-        };
-        if call.name != "run" {
-            return self.fault(alloc, call, text);
-        }
-        for value in values.split_whitespace() {
-            let call = Call {
-                option: Some((option, value)),
-                ..*call
-            };
-            let fault = self.fault(alloc, &call, text)?;
+        for name in row.value("calls").unwrap_or("").split_whitespace() {
+            let call = self.call_of(row, name);
+            let fault = self.fault_by_options(alloc, lists, row, &call, text)?;
             if fault.is_some() {
                 return Ok(fault);
             }
@@ -276,37 +311,42 @@ fn wanted_of<'a>(row: &Row<'a>) -> Option<Wanted<'a>> {
     })
 }
 
-/// A row's trial; none where a setting can't be read.
-fn trial_of<'a>(alloc: Global, row: &Row<'a>) -> Result<Option<Trial<'a>>, NoMemory> {
-    let lists = Lists::read(alloc, row)?;
-    match (are_known(row), wanted_of(row), lists) {
-        (true, Some(wanted), Some(lists)) => Ok(Some(Trial {
-            wanted,
-            lists,
-            first: None,
-        })),
-        _ => Ok(None),
-    }
-}
-
-/// What of a row doesn't come true.
-pub(crate) fn fault_of(alloc: Global, row: &Row<'_>) -> Result<Option<Fault>, NoMemory> {
-    let Some(mut trial) = trial_of(alloc, row)? else {
-        return Ok(Some("has a setting that can't be read"));
+/// What of a row doesn't come true, by what its calls must come to and its lists.
+fn fault_by<'a>(
+    alloc: Global,
+    row: &Row<'a>,
+    wanted: Wanted<'a>,
+    lists: &Lists,
+) -> Result<Option<Fault>, NoMemory> {
+    let mut trial = Trial {
+        wanted,
+        first: None,
     };
-    if row.value("calls").is_none() {
-        return Ok(Some("names no call"));
-    }
     let text = text_of(alloc, row)?;
-    if trial.lists.prefixes.is_empty() {
-        return trial.fault_by_calls(alloc, row, text.as_slice());
+    if lists.prefixes.is_empty() {
+        return trial.fault_by_calls(alloc, lists, row, text.as_slice());
     }
-    for at in 0..trial.lists.prefixes.len() {
-        let end = trial.lists.prefixes[at].min(text.len() as u64) as usize;
-        let fault = trial.fault_by_calls(alloc, row, &text[..end])?;
+    for prefix in lists.prefixes.iter() {
+        let end = (*prefix).min(text.len() as u64) as usize;
+        let fault = trial.fault_by_calls(alloc, lists, row, &text[..end])?;
         if fault.is_some() {
             return Ok(fault);
         }
     }
     Ok(None)
+}
+
+/// What of a row doesn't come true.
+pub(crate) fn fault_of<'a>(alloc: Global, row: &Row<'a>) -> Result<Option<Fault>, NoMemory> {
+    let lists = Lists::read(alloc, row)?;
+    match (are_known(row), wanted_of(row), lists) {
+        (true, Some(wanted), Some(lists)) => {
+            if row.value("calls").is_none() {
+                Ok(Some(Fault::NoCall))
+            } else {
+                fault_by(alloc, row, wanted, &lists)
+            }
+        }
+        _ => Ok(Some(Fault::Settings)),
+    }
 }
