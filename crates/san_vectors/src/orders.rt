@@ -96,6 +96,14 @@ fn written_of(alloc: Global, flat: &Flat, place: Option<u32>) -> Result<Vec<Plac
     Ok(written)
 }
 
+/// The order of a network at time 0, with a horizon of 9.
+fn opened(alloc: Global, flat: &Flat) -> Result<Order, NoMemory>
+    ensures { IfOk result (λ o. o.firsts ≡ map (λ p. p.first.0) flat.now.parts) }
+{
+    let order = Order::open(alloc, flat, Tick(9))?;
+    Ok(order)
+}
+
 /// An order takes a piece.
 fn take(alloc: Global, flat: &Flat, order: &mut Order, piece: Piece) -> Result<(), NoMemory>
     requires { order.old.firsts ≡ map (λ p. p.first.0) flat.now.parts }
@@ -118,7 +126,7 @@ fn take(alloc: Global, flat: &Flat, order: &mut Order, piece: Piece) -> Result<(
 #[test]
 fn needs_in_turn(rt: HostRuntime) -> Result<(), Fail> {
     let flat = put_and_get(rt.alloc())?;
-    let mut order = Order::open(rt.alloc(), &flat, Tick(9))?;
+    let mut order = opened(rt.alloc(), &flat)?;
     assert_eq!(rt; order.need(), Need::Settle(LeafId(0)));
     'pieces: for (piece, need) in PIECES {
         take(rt.alloc(), &flat, &mut order, piece)?;
@@ -131,7 +139,7 @@ fn needs_in_turn(rt: HostRuntime) -> Result<(), Fail> {
 #[test]
 fn leaves_and_copies(rt: HostRuntime) -> Result<(), Fail> {
     let flat = put_and_get(rt.alloc())?;
-    let mut order = Order::open(rt.alloc(), &flat, Tick(9))?;
+    let mut order = opened(rt.alloc(), &flat)?;
     let first = order.copy(rt.alloc())?;
     assert!(rt; order.is_unsettled(LeafId(1)) && order.is_stale(LeafId(1)));
     assert!(rt; !order.is_unsettled(LeafId(2)) && !order.is_stale(LeafId(2)));
