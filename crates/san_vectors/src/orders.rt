@@ -123,16 +123,24 @@ fn take(alloc: Global, flat: &Flat, order: &mut Order, piece: Piece) -> Result<(
     Ok(())
 }
 
+/// The first piece after which the need, or the time, is another than the list says.
+fn first_wrong(alloc: Global, flat: &Flat) -> Result<Option<Piece>, NoMemory> {
+    let mut order = opened(alloc, flat)?;
+    'pieces: for (piece, need) in PIECES {
+        take(alloc, flat, &mut order, piece)?;
+        if order.need() != need || order.time() != Tick(piece.2) {
+            return Ok(Some(piece));
+        }
+    }
+    Ok(None)
+}
+
 #[test]
 fn needs_in_turn(rt: HostRuntime) -> Result<(), Fail> {
     let flat = put_and_get(rt.alloc())?;
-    let mut order = opened(rt.alloc(), &flat)?;
+    let order = opened(rt.alloc(), &flat)?;
     assert_eq!(rt; order.need(), Need::Settle(LeafId(0)));
-    'pieces: for (piece, need) in PIECES {
-        take(rt.alloc(), &flat, &mut order, piece)?;
-        assert_eq!(rt; order.need(), need, "after {piece:?}");
-        assert_eq!(rt; order.time(), Tick(piece.2));
-    }
+    assert_eq!(rt; first_wrong(rt.alloc(), &flat)?, None);
     Ok(())
 }
 

@@ -1,6 +1,0 @@
-use Rattle.std.proofs.Common.{◌≡◌, map}
-use Rattle.san_net.specs.declared.part.Part.{Part}
-use Rattle.san_vectors.proofs.orders.needs_in_turn.Given as goal
-
-abbrev pub invariant-pieces : goal.invariant-pieces
-invariant-pieces g l = l.order.firsts ≡ map (λ (p : Part). p.first.0) l.flat.parts
