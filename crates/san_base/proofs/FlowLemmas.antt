@@ -49,7 +49,7 @@ takes_more (Some left) b c xs buf n p q =
     let parts : p.0 ≡ take n buf ++ drop n p.0 = sym (take-append-drop n p.0) ∙ ap (λ (zs : List ℕ). zs ++ drop n p.0) (sym r.1) in
     (drop n p.0, p.1 ∙ (ap (λ (zs : List ℕ). xs ++ zs) parts ∙ sym (append_assoc xs (take n buf) (drop n p.0))), r.2)
 
--- what was taken, told by its number alone
+-- what was taken, known by its number alone
 pub takes_first : (a b : Option (List ℕ)) (xs : List ℕ) (n : ℕ) → Takes a b xs → length xs ≡ n → TakesFirst a b n
 takes_first None b xs n p e = p
 takes_first (Some left) b xs n p e =
@@ -57,7 +57,7 @@ takes_first (Some left) b xs n p e =
     let rest : drop n left ≡ p.0 = ap (λ (zs : List ℕ). drop n zs) p.1 ∙ (ap (λ (m : ℕ). drop m (xs ++ p.0)) (sym e) ∙ drop-append_seam xs p.0) in
     (omega arith, p.2 ∙ ap Some (sym rest))
 
--- so many more were taken, told by their number alone
+-- so many more were taken, known by their number alone
 pub takes_further : (a b c : Option (List ℕ)) (xs : List ℕ) (n most : ℕ) → Takes a b xs → TakesFirst b c n → length xs + n ≤ most → TakesUpTo a c most
 takes_further None b c xs n most p q h =
     let P : Option (List ℕ) → Type 0 = λ o. TakesFirst o c n in

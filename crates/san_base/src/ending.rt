@@ -1,4 +1,4 @@
-//! What a run is told in: its events, why an evaluation traps, and how a run ends.
+//! What a run answers: its events, why an evaluation traps, and how a run ends.
 
 use crate::numbers::{ActId, Tick};
 

@@ -50,8 +50,23 @@ pub const MAX_ROLLBACKS: u64 = 1_000_000;
 /// The greatest value, and with a minus the least, at which a reward's term is no fault.
 pub const MAX_RATED: u64 = 1_000_000_000;
 
-/// More impulses than any run is told.
+/// More impulses than any run counts.
 pub const MAX_IMPULSES: u64 = 1_099_511_627_776;
+
+/// More draws than any run takes of a stream.
+pub const MAX_DRAWS: u64 = 1_099_511_627_776;
+
+/// More completions than any run has.
+pub const MAX_COMPLETIONS: u64 = 1_099_511_627_776;
+
+/// More ticks than any run has.
+pub const MAX_TICKS: u64 = 1_099_511_627_776;
+
+/// A time beyond all runs, to which the longest delay can be added.
+pub const MAX_TIME: u64 = 4_611_686_018_427_387_904;
+
+/// The greatest priority of an instantaneous activity.
+pub const MAX_PRIORITY: u64 = 1_000;
 
 /// The bounds that a run is given; what ranges they have, the definition `IsInRange` tells.
 #[derive(Clone, Copy, Debug, PartialEq, Eq)]

@@ -1,4 +1,4 @@
-//! What the pieces of work that a leaf makes ahead are told by: their kinds, stamps and chains.
+//! What the pieces of work that a leaf makes ahead are known by: their kinds, stamps and chains.
 
 ghost use Rattle.std.specs.Prelude.{◌≡◌};
 

@@ -1,7 +1,7 @@
 //! Where bytes go, one piece after another.
 
 ghost use Rattle.std.specs.Prelude.{◌≡◌, ◌<◌, ◌≤◌, ℕ, List, Option, length, MatchBool};
-ghost use Rattle.san_base.specs.Flow.{Puts, Rose, Appends, AppendsPrefix};
+ghost use Rattle.san_base.specs.Flow.{Puts, CountRose, Appends, AppendsPrefix};
 
 /// What a put did: so many bytes were taken, or none, by a fault.
 #[derive(Clone, Copy, Debug, PartialEq, Eq)]
@@ -30,7 +30,7 @@ pub trait Sink {
 pub fn put_all<K: Sink>(sink: &mut K, bytes: &[u8]) -> bool
     ensures bytes { MatchBool result (Appends (K.held sink.old) (K.held sink.new) bytes.now)
         (AppendsPrefix (K.held sink.old) (K.held sink.new) bytes.now) }
-    ensures cause { MatchBool result (Unit {0}) (Rose (K.faults sink.old) (K.faults sink.new)) }
+    ensures cause { MatchBool result (Unit {0}) (CountRose (K.faults sink.old) (K.faults sink.new)) }
     ensures later { K.faults sink.old ≤ K.faults sink.new }
 {
     let mut at = 0;

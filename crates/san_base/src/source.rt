@@ -1,7 +1,7 @@
 //! Where bytes come from, and reading them to the end.
 
 ghost use Rattle.std.specs.Prelude.{◌≡◌, ◌<◌, ◌≤◌, ◌+◌, ℕ, List, Option, length, IfOk, OnOk, IsErrOf, vec_len};
-ghost use Rattle.san_base.specs.Flow.{Reads, Rose, Takes, TakesFirst, IsUsedUp, TakesUpTo};
+ghost use Rattle.san_base.specs.Flow.{Reads, CountRose, Takes, TakesFirst, IsUsedUp, TakesUpTo};
 ghost use Rattle.san_base.specs.inner.Turns.{TakesMore};
 
 use std::alloc::Global;
@@ -55,7 +55,7 @@ fn take_more<S: Source>(source: &mut S, part: &mut [u8], taken: &mut Vec<u8>) ->
     requires { 0 < length part.old }
     ensures answer { TakesMore result (S.left source.old) (S.left source.new) taken.old.items taken.new.items
         (length part.old) }
-    ensures cause { result ≡ Turn.Failed → Rose (S.faults source.old) (S.faults source.new) }
+    ensures cause { result ≡ Turn.Failed → CountRose (S.faults source.old) (S.faults source.new) }
     ensures later { S.faults source.old ≤ S.faults source.new }
 {
     match source.read(part) {
@@ -77,7 +77,7 @@ pub fn take_all<S: Source>(alloc: Global, source: &mut S, most: u32) -> Result<V
     ensures few { IfOk result (λ v. vec_len v ≤ most) }
 
     ensures over { IsErrOf result Taking.Over → TakesFirst (S.left source.old) (S.left source.new) (most + 1) }
-    ensures failed { IsErrOf result Taking.Failed → Rose (S.faults source.old) (S.faults source.new) }
+    ensures failed { IsErrOf result Taking.Failed → CountRose (S.faults source.old) (S.faults source.new) }
     ensures cut { IsErrOf result Taking.Failed → TakesUpTo (S.left source.old) (S.left source.new) most }
     ensures no_memory { IsErrOf result Taking.NoMemory
         → TakesUpTo (S.left source.old) (S.left source.new) (most + 1) }

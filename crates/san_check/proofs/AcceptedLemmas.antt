@@ -14,7 +14,7 @@ use Rattle.san_text.specs.declared.syntax.RewardDecl.{RewardDecl}
 use Rattle.san_text.specs.declared.syntax.Syntax.{Syntax}
 use Rattle.san_net.specs.Accepted.{IsAccepted, IsAcceptedActivity}
 use Rattle.san_net.specs.Instants.{Named}
-use Rattle.san_net.specs.Names.{is_name}
+use Rattle.san_base.specs.Names.{is_name}
 use Rattle.san_net.specs.declared.atomic.RateTerm.{RateTerm}
 use Rattle.san_net.specs.declared.atomic.ImpulseTerm.{ImpulseTerm}
 use Rattle.san_check.specs.declared.known.Known.{Known}

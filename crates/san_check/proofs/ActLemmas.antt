@@ -1,4 +1,5 @@
 -- Without a fault the activities of an atomic are as they are accepted.
+use Rattle.san_base.proofs.Bools.{and_true}
 use Rattle.std.proofs.Common.{◌≡◌, ℕ, pos, ◌≤◌, Bool, true, ◌&&◌, nat_lt, List, [], ◌∷◌, length, map, Option, Some, None, IsTrue, All, refl, arith}
 use Rattle.std.proofs.lemmas.Bool.{ltb-false, lt-ltb}
 use Rattle.std.proofs.lemmas.List.{length-map}
@@ -23,7 +24,7 @@ use Rattle.san_check.specs.build.Activity.{weight_of, input_of, output_of, outpu
 use Rattle.san_check.specs.Formed.{IsFormedCases}
 use Rattle.san_check.proofs.FreeLemmas.{Free, free_left, free_right, code_free}
 use Rattle.san_check.proofs.ListedLemmas.{or_left, or_right}
-use Rattle.san_check.proofs.FitLemmas.{Placed, both, good_number, whole_known, first_below, expr_good}
+use Rattle.san_check.proofs.FitLemmas.{Placed, good_number, whole_known, first_below, expr_good}
 use Rattle.san_check.proofs.BodyLemmas.{body_good}
 
 pub within : (c n least most : ℕ) → code c (is_outside n least most) ≡ None → (least ≤ n) × (n ≤ most)
@@ -48,7 +49,7 @@ input_good places cells k at (in_decl.Arc s w) f = record { below = lt-ltb (cell
 input_good places cells k at (in_decl.Gate e b) f =
     let g = expr_good places cells k at e (free_left (expr_entries places e) (stmts_entries places b) f) in
     let h = body_good places cells k at b (free_right (expr_entries places e) (stmts_entries places b) f) in
-    record { below = both (places_below (expr_of cells e) k) _ g.0 h.0; lengths = both (has_lengths (expr_of cells e)) _ g.1 h.1; accepted = tt }
+    record { below = and_true (places_below (expr_of cells e) k) _ g.0 h.0; lengths = and_true (has_lengths (expr_of cells e)) _ g.1 h.1; accepted = tt }
 
 output_good : (places : Places) (cells : CellTable) (k : ℕ) → Placed places cells k → (d : OutputDecl) → Free (output_entries places d) → GoodPart (output_below (output_of cells d) k) (output_has_lengths (output_of cells d)) (IsAcceptedOutput (output_of cells d))
 unfolding output_entries arc_entries output_of
@@ -61,7 +62,7 @@ inputs_good places cells k at [] f = record { below = refl; lengths = refl; acce
 inputs_good places cells k at (d ∷ ds) f =
     let one = input_good places cells k at d (free_left (input_entries places d) (joined (map (input_entries places) ds)) f) in
     let more = inputs_good places cells k at ds (free_right (input_entries places d) (joined (map (input_entries places) ds)) f) in
-    record { below = both (input_below (input_of cells d) k) _ one.below more.below; lengths = both (input_has_lengths (input_of cells d)) _ one.lengths more.lengths; accepted = All-cons IsAcceptedInput (input_of cells d) (map (input_of cells) ds) one.accepted more.accepted }
+    record { below = and_true (input_below (input_of cells d) k) _ one.below more.below; lengths = and_true (input_has_lengths (input_of cells d)) _ one.lengths more.lengths; accepted = All-cons IsAcceptedInput (input_of cells d) (map (input_of cells) ds) one.accepted more.accepted }
 
 outputs_good : (places : Places) (cells : CellTable) (k : ℕ) → Placed places cells k → (ds : List OutputDecl) → Free (outputs_entries places ds)
     → GoodPart (outputs_below (outputs_of cells ds) k) (all_true (map output_has_lengths (outputs_of cells ds))) (All IsAcceptedOutput (outputs_of cells ds))
@@ -69,14 +70,14 @@ outputs_good places cells k at [] f = record { below = refl; lengths = refl; acc
 outputs_good places cells k at (d ∷ ds) f =
     let one = output_good places cells k at d (free_left (output_entries places d) (outputs_entries places ds) f) in
     let more = outputs_good places cells k at ds (free_right (output_entries places d) (outputs_entries places ds) f) in
-    record { below = both (output_below (output_of cells d) k) _ one.below more.below; lengths = both (output_has_lengths (output_of cells d)) _ one.lengths more.lengths; accepted = All-cons IsAcceptedOutput (output_of cells d) (outputs_of cells ds) one.accepted more.accepted }
+    record { below = and_true (output_below (output_of cells d) k) _ one.below more.below; lengths = and_true (output_has_lengths (output_of cells d)) _ one.lengths more.lengths; accepted = All-cons IsAcceptedOutput (output_of cells d) (outputs_of cells ds) one.accepted more.accepted }
 
 case_good : (places : Places) (cells : CellTable) (k : ℕ) → Placed places cells k → (c : CaseDecl) → Free (case_entries places c) → GoodPart (case_below (case_of cells c) k) (case_has_lengths (case_of cells c)) (All IsAcceptedOutput (case_of cells c).outputs)
 unfolding case_entries
 case_good places cells k at c f =
     let w = expr_good places cells k at c.weight (free_left (expr_entries places c.weight) (outputs_entries places c.outputs) f) in
     let o = outputs_good places cells k at c.outputs (free_right (expr_entries places c.weight) (outputs_entries places c.outputs) f) in
-    record { below = both (places_below (expr_of cells c.weight) k) _ w.0 o.below; lengths = both (has_lengths (expr_of cells c.weight)) _ w.1 o.lengths; accepted = o.accepted }
+    record { below = and_true (places_below (expr_of cells c.weight) k) _ w.0 o.below; lengths = and_true (has_lengths (expr_of cells c.weight)) _ w.1 o.lengths; accepted = o.accepted }
 
 weighted_good : (places : Places) (cells : CellTable) (k : ℕ) → Placed places cells k → (cs : List CaseDecl) → Free (joined (map (case_entries places) cs))
     → GoodPart (cases_below (map (case_of cells) cs) k) (all_true (map case_has_lengths (map (case_of cells) cs))) (All (λ c. All IsAcceptedOutput c.outputs) (map (case_of cells) cs))
@@ -84,10 +85,10 @@ weighted_good places cells k at [] f = record { below = refl; lengths = refl; ac
 weighted_good places cells k at (c ∷ cs) f =
     let one = case_good places cells k at c (free_left (case_entries places c) (joined (map (case_entries places) cs)) f) in
     let more = weighted_good places cells k at cs (free_right (case_entries places c) (joined (map (case_entries places) cs)) f) in
-    record { below = both (case_below (case_of cells c) k) _ one.below more.below; lengths = both (case_has_lengths (case_of cells c)) _ one.lengths more.lengths; accepted = All-cons (λ c. All IsAcceptedOutput c.outputs) (case_of cells c) (map (case_of cells) cs) one.accepted more.accepted }
+    record { below = and_true (case_below (case_of cells c) k) _ one.below more.below; lengths = and_true (case_has_lengths (case_of cells c)) _ one.lengths more.lengths; accepted = All-cons (λ c. All IsAcceptedOutput c.outputs) (case_of cells c) (map (case_of cells) cs) one.accepted more.accepted }
 
-and_true : (a : Bool) → a ≡ true → (a && true) ≡ true
-and_true a h = both a true h refl
+with_true : (a : Bool) → a ≡ true → (a && true) ≡ true
+with_true a h = and_true a true h refl
 
 pub cases_good : (places : Places) (cells : CellTable) (k : ℕ) → Placed places cells k → (c : Cases) → Free (cases_entries places c)
     → GoodPart (cases_below (cases_of cells c) k) (all_true (map case_has_lengths (cases_of cells c))) (All (λ c. All IsAcceptedOutput c.outputs) (cases_of cells c))
@@ -96,8 +97,8 @@ cases_good places cells k at (cases.Plain outputs) f =
     let o = outputs_good places cells k at outputs f in
     let one = good_number k (pos 1) in
     record {
-      below = and_true (case_below (only_case cells outputs) k) (both (places_below (only_case cells outputs).weight k) _ one.0 o.below);
-      lengths = and_true (case_has_lengths (only_case cells outputs)) (both (has_lengths (only_case cells outputs).weight) _ one.1 o.lengths);
+      below = with_true (case_below (only_case cells outputs) k) (and_true (places_below (only_case cells outputs).weight k) _ one.0 o.below);
+      lengths = with_true (case_has_lengths (only_case cells outputs)) (and_true (has_lengths (only_case cells outputs).weight) _ one.1 o.lengths);
       accepted = All-cons (λ c. All IsAcceptedOutput c.outputs) (only_case cells outputs) [] o.accepted (All-nil (λ c. All IsAcceptedOutput c.outputs));
     }
 cases_good places cells k at (cases.Weighted cs) f = weighted_good places cells k at cs f

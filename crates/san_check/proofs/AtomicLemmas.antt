@@ -1,4 +1,5 @@
 -- Without a fault each reward's atomic is there.
+use Rattle.san_base.proofs.Bools.{not_false}
 use Rattle.std.proofs.Common.{◌≡◌, ℕ, suc, ◌+◌, ◌<◌, ◌≤◌, Bool, true, false, cond, not, List, [], ◌∷◌, ◌++◌, length, map, Option, Some, None, All, refl, sym, ap, subst, ◌∙◌, true≢false, arith}
 use Rattle.std.proofs.lemmas.List.Elements.{All-nil, All-cons}
 use Rattle.std.proofs.lemmas.Slice.Eq.{bytes_eq-Decides}
@@ -15,7 +16,7 @@ use Rattle.san_check.specs.walk.Composition.{Models, nothing, known_as, name_of,
 use Rattle.san_check.specs.walk.Reward.{reward_entries, rewards_entries}
 use Rattle.san_check.specs.build.Reward.{with_atomic, all_atomics, reward_of}
 use Rattle.san_check.specs.build.Atomic.{atomic_in, atomics_from}
-use Rattle.san_check.proofs.FreeLemmas.{Free, free_left, free_right, code_free, not_false}
+use Rattle.san_check.proofs.FreeLemmas.{Free, free_left, free_right, code_free}
 use Rattle.san_check.proofs.TableLemmas.{declared_last, declared_known}
 use Rattle.san_check.proofs.TreeLemmas.{grows, number_below}
 use Rattle.san_check.proofs.NumberLemmas.{found_front, known_itself, known_stays}

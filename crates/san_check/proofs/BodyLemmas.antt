@@ -1,4 +1,5 @@
 -- Without a fault what the statements of an atomic name is below the number of its cells.
+use Rattle.san_base.proofs.Bools.{and_true}
 use Rattle.std.proofs.Common.{ℕ, ◌+◌, ◌^◌, ◌<◌, ◌≤◌, Bool, ◌&&◌, nat_lt, nat_le, List, [], ◌∷◌, ◌++◌, map, IsTrue, refl, sym, ap, subst, ◌∙◌, arith}
 use Rattle.std.proofs.lemmas.Bool.{lt-ltb, le-leb}
 use denote.Hole.Carrier
@@ -20,7 +21,7 @@ use Rattle.san_check.specs.walk.Expression.{Places, expr_entries, stmt_step, stm
 use Rattle.san_check.specs.build.Cells.{CellTable, cells_at}
 use Rattle.san_check.specs.build.Expression.{expr_of, set_in, stmt_of_step, stmt_of, stmts_of}
 use Rattle.san_check.proofs.FreeLemmas.{Free, free_left, free_right}
-use Rattle.san_check.proofs.FitLemmas.{In, Placed, Good, both, whole_known, element_known, first_below, expr_good}
+use Rattle.san_check.proofs.FitLemmas.{In, Placed, Good, whole_known, element_known, first_below, expr_good}
 
 abbrev pub GoodStmt : ℕ → Stmt → Type 0
 GoodStmt k s = IsTrue (stmt_below s k) × IsTrue (stmt_has_lengths s)
@@ -31,23 +32,23 @@ GoodBody k body = IsTrue (stmts_below body k) × IsTrue (stmts_have_lengths body
 good_set : (k p : ℕ) (e : Expr) → p < k → Good k e → GoodStmt k (plain.Set p e)
 unfolding made.roll-Stmt denote.Hole.Carrier.roll
 good_set k p e h g =
-    (ap (λ (b : Bounded). b k) (fold-roll-Stmt Bounded stmt_below_step (Stmt-F.Set p e)) ∙ both (nat_lt p k) (places_below e k) (lt-ltb p k h) g.0, fold-roll-Stmt Bool stmt_lengths_step (Stmt-F.Set p e) ∙ g.1)
+    (ap (λ (b : Bounded). b k) (fold-roll-Stmt Bounded stmt_below_step (Stmt-F.Set p e)) ∙ and_true (nat_lt p k) (places_below e k) (lt-ltb p k h) g.0, fold-roll-Stmt Bool stmt_lengths_step (Stmt-F.Set p e) ∙ g.1)
 
 good_set_cell : (k : ℕ) (c : Cells) (i e : Expr) → k ≤ 256 → In c k → Good k i → Good k e → GoodStmt k (set_in c i e)
 unfolding made.roll-Stmt denote.Hole.Carrier.roll
 good_set_cell k c i e few h g r =
     let small : c.first + c.length ≤ 4294967296 = omega (arith, few, h.1) in (
       ap (λ (b : Bounded). b k) (fold-roll-Stmt Bounded stmt_below_step (Stmt-F.SetCell c.first c.length i e))
-          ∙ both (nat_le (c.first + c.length) k && nat_le (c.first + c.length) (2 ^ 32)) (places_below i k && places_below e k)
-          (both (nat_le (c.first + c.length) k) (nat_le (c.first + c.length) (2 ^ 32)) (le-leb (c.first + c.length) k h.1) (le-leb (c.first + c.length) (2 ^ 32) small)) (both (places_below i k) (places_below e k) g.0 r.0),
-      fold-roll-Stmt Bool stmt_lengths_step (Stmt-F.SetCell c.first c.length i e) ∙ both (nat_le 1 c.length) (has_lengths i && has_lengths e) (le-leb 1 c.length h.0) (both (has_lengths i) (has_lengths e) g.1 r.1),
+          ∙ and_true (nat_le (c.first + c.length) k && nat_le (c.first + c.length) (2 ^ 32)) (places_below i k && places_below e k)
+          (and_true (nat_le (c.first + c.length) k) (nat_le (c.first + c.length) (2 ^ 32)) (le-leb (c.first + c.length) k h.1) (le-leb (c.first + c.length) (2 ^ 32) small)) (and_true (places_below i k) (places_below e k) g.0 r.0),
+      fold-roll-Stmt Bool stmt_lengths_step (Stmt-F.SetCell c.first c.length i e) ∙ and_true (nat_le 1 c.length) (has_lengths i && has_lengths e) (le-leb 1 c.length h.0) (and_true (has_lengths i) (has_lengths e) g.1 r.1),
     )
 
 good_if : (k : ℕ) (e : Expr) (xs ys : List Stmt) → Good k e → GoodBody k xs → GoodBody k ys → GoodStmt k (made.If e xs ys)
 unfolding made.roll-Stmt denote.Hole.Carrier.roll
 good_if k e xs ys g h r = (
-  ap (λ (b : Bounded). b k) (fold-roll-Stmt Bounded stmt_below_step (Stmt-F.If e xs ys)) ∙ both (places_below e k) (stmts_below xs k && stmts_below ys k) g.0 (both (stmts_below xs k) (stmts_below ys k) h.0 r.0),
-  fold-roll-Stmt Bool stmt_lengths_step (Stmt-F.If e xs ys) ∙ both (has_lengths e) (stmts_have_lengths xs && stmts_have_lengths ys) g.1 (both (stmts_have_lengths xs) (stmts_have_lengths ys) h.1 r.1),
+  ap (λ (b : Bounded). b k) (fold-roll-Stmt Bounded stmt_below_step (Stmt-F.If e xs ys)) ∙ and_true (places_below e k) (stmts_below xs k && stmts_below ys k) g.0 (and_true (stmts_below xs k) (stmts_below ys k) h.0 r.0),
+  fold-roll-Stmt Bool stmt_lengths_step (Stmt-F.If e xs ys) ∙ and_true (has_lengths e) (stmts_have_lengths xs && stmts_have_lengths ys) g.1 (and_true (stmts_have_lengths xs) (stmts_have_lengths ys) h.1 r.1),
 )
 
 abbrev Meant : Places → CellTable → ℕ → StmtDecl → Type 0
@@ -63,7 +64,7 @@ inner places cells k first law [] f = (refl, refl)
 inner places cells k first law (x ∷ xs) f =
     let one = law x (free_left (stmt_entries places (first x)) (joined (map (stmt_entries places) (map first xs))) f) in
     let more = inner places cells k first law xs (free_right (stmt_entries places (first x)) (joined (map (stmt_entries places) (map first xs))) f) in
-    (both (stmt_below (stmt_of cells (first x)) k) (stmts_below (map (stmt_of cells) (map first xs)) k) one.0 more.0, both (stmt_has_lengths (stmt_of cells (first x))) (stmts_have_lengths (map (stmt_of cells) (map first xs))) one.1 more.1)
+    (and_true (stmt_below (stmt_of cells (first x)) k) (stmts_below (map (stmt_of cells) (map first xs)) k) one.0 more.0, and_true (stmt_has_lengths (stmt_of cells (first x))) (stmts_have_lengths (map (stmt_of cells) (map first xs))) one.1 more.1)
 
 layer : {S : Type 0} (places : Places) (cells : CellTable) (k : ℕ) → Placed places cells k → (first : S → StmtDecl) → ((s : S) → Meant places cells k (first s)) → (y : StmtDecl-F S) → Meant places cells k (stmt.roll-StmtDecl (map-StmtDecl S StmtDecl first y))
 layer places cells k at first law (StmtDecl-F.Set s e) =
@@ -86,4 +87,4 @@ body_good places cells k at [] f = (refl, refl)
 body_good places cells k at (x ∷ xs) f =
     let one = stmt_good places cells k at x (free_left (stmt_entries places x) (stmts_entries places xs) f) in
     let more = body_good places cells k at xs (free_right (stmt_entries places x) (stmts_entries places xs) f) in
-    (both (stmt_below (stmt_of cells x) k) (stmts_below (stmts_of cells xs) k) one.0 more.0, both (stmt_has_lengths (stmt_of cells x)) (stmts_have_lengths (stmts_of cells xs)) one.1 more.1)
+    (and_true (stmt_below (stmt_of cells x) k) (stmts_below (stmts_of cells xs) k) one.0 more.0, and_true (stmt_has_lengths (stmt_of cells x)) (stmts_have_lengths (stmts_of cells xs)) one.1 more.1)

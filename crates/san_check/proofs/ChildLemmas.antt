@@ -7,7 +7,7 @@ use Rattle.san_text.specs.declared.syntax.ChildDecl.{ChildDecl}
 use Rattle.san_tree.specs.declared.node.Node.{Node}
 use Rattle.san_tree.specs.Places.{node_at}
 use Rattle.san_net.specs.Apart.{AreApart}
-use Rattle.san_net.specs.Names.{is_name}
+use Rattle.san_base.specs.Names.{is_name}
 use Rattle.san_check.specs.Tables.{is_known}
 use Rattle.san_check.specs.walk.Entries.{code}
 use Rattle.san_check.specs.walk.Composition.{Models, Children, child_code, children_entries, with_child, all_children, shown_by, shares_entries, model_entries, models_entries, with_model}

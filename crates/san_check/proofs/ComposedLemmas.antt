@@ -22,7 +22,7 @@ use Rattle.san_check.proofs.OnceLemmas.{apart}
 use Rattle.san_check.proofs.KeepsLemmas.{keeps}
 use Rattle.san_check.proofs.AcceptedLemmas.{accepted}
 use Rattle.san_check.proofs.AtomicLemmas.{none_known, atomics_known, atomics_few, rewards_on}
-use Rattle.san_check.proofs.SpanLemmas.{AllTold, rewards_few, spans_good, atomics_told, told_known}
+use Rattle.san_check.proofs.SpanLemmas.{AllFit, rewards_few, spans_good, atomics_fit, fit_known}
 use Rattle.san_check.proofs.LeafLemmas.{LeafAt, initial_of, leaf_at, rows_each, rows_good, value_at}
 use Rattle.san_check.proofs.ChildLemmas.{children_good}
 
@@ -42,8 +42,8 @@ passed s h =
 abbrev whole : Syntax → List Reward
 whole s = map (reward_of (all_atomics [] s.models)) s.rewards
 
-all_told : (s : Syntax) → Passed s → All (AllTold (whole s)) (atomics_from s.rewards s.models)
-all_told s free = atomics_told (all_models [] s.models) (all_atomics [] s.models) s.rewards s.models free.rewards
+all_fit : (s : Syntax) → Passed s → All (AllFit (whole s)) (atomics_from s.rewards s.models)
+all_fit s free = atomics_fit (all_models [] s.models) (all_atomics [] s.models) s.rewards s.models free.rewards
 
 leaf_of : (s : Syntax) → Passed s → (n a : ℕ) → n < length (nodes_from (all_models [] s.models) 0 s.models) → node_at (nodes_from (all_models [] s.models) 0 s.models) n ≡ Leaf a → LeafAt s.rewards (all_models [] s.models) s.models 0 0 n a
 leaf_of s free n a lt is =
@@ -68,7 +68,7 @@ composed_of s formed h =
     let free = passed s h in
     let all = all_models [] s.models in
     let names = all_atomics [] s.models in
-    let told = all_told s free in
+    let intervals = all_fit s free in
     let few = rewards_few all [] 0 s.rewards (omega arith) free.rewards in
     let many = length-map s.rewards (reward_of names) in
     let children = children_good all [] 0 0 s.models formed.models free.models in
@@ -77,8 +77,8 @@ composed_of s formed h =
       few_rewards = omega (arith, few, many);
       spans = spans_good all [] names 0 s.rewards free.rewards;
       on = rewards_on all [] names 0 (length (atomics_from s.rewards s.models)) s.rewards (atomics_known [] [] s.models none_known) (let some = atomics_few s.rewards [] s.models in omega (arith, some)) free.rewards;
-      known = λ k d lt. told_known (whole s) (get_or (atomics_from s.rewards s.models) k d) (told k d lt);
-      told = λ k d lt. (told k d lt).told;
+      known = λ k d lt. fit_known (whole s) (get_or (atomics_from s.rewards s.models) k d) (intervals k d lt);
+      intervals = λ k d lt. (intervals k d lt).intervals;
       leaves = leaves s free;
       celled = rows_each s.rewards s.models;
       rows = rows_good s.rewards [] 0 s.models free.models;

@@ -1,4 +1,5 @@
 -- Without a fault a delay's constants are sound.
+use Rattle.san_base.proofs.Bools.{and_true}
 use Rattle.std.proofs.Common.{◌≡◌, ℕ, ◌+◌, ◌<◌, ◌≤◌, false, ◌&&◌, nat_eq, nat_lt, nat_le, List, [], ◌∷◌, length, map, sum, None, All, refl, arith}
 use Rattle.std.proofs.lemmas.Bool.{ltb-false, leb-false}
 use Rattle.std.proofs.lemmas.List.Elements.{All-cons, All-nil}
@@ -16,7 +17,7 @@ use Rattle.san_check.specs.build.Expression.{expr_of, dist_of}
 use Rattle.san_check.specs.Formed.{IsFormedDist}
 use Rattle.san_check.proofs.FreeLemmas.{Free, free_left, free_right, code_free, else_first, else_second}
 use Rattle.san_check.proofs.ListedLemmas.{positive}
-use Rattle.san_check.proofs.FitLemmas.{Placed, both, expr_good}
+use Rattle.san_check.proofs.FitLemmas.{Placed, expr_good}
 use Rattle.san_check.proofs.ActLemmas.{GoodPart, within}
 
 -- entries of a table behind n others, whose weights have this sum
@@ -66,7 +67,7 @@ dist_good places cells k at (dist.Det e) formed f = let g = expr_good places cel
 dist_good places cells k at (dist.Uniform a b) formed f =
     let g = expr_good places cells k at a (free_left (expr_entries places a) (expr_entries places b) f) in
     let h = expr_good places cells k at b (free_right (expr_entries places a) (expr_entries places b) f) in
-    record { below = both (places_below (expr_of cells a) k) _ g.0 h.0; lengths = both (has_lengths (expr_of cells a)) _ g.1 h.1; accepted = tt }
+    record { below = and_true (places_below (expr_of cells a) k) _ g.0 h.0; lengths = and_true (has_lengths (expr_of cells a)) _ g.1 h.1; accepted = tt }
 dist_good places cells k at (dist.Geom p q) formed f =
     let a = within 33 p 1 1000 f.0 in
     let b = within 33 q p 1000 f.1.0 in

@@ -3,7 +3,7 @@ use Rattle.std.proofs.Common.{◌≡◌, ℕ, suc, ◌+◌, ◌<◌, List, [], �
 use Rattle.std.specs.Option.{option_map}
 use Rattle.san_check.specs.declared.walk.Walk.{Walk}
 use Rattle.san_check.specs.declared.walk.Fault.{Fault}
-use Rattle.san_check.specs.walk.Entries.{Entries, joined, first_fault, told}
+use Rattle.san_check.specs.walk.Entries.{Entries, joined, first_fault, reported}
 use Rattle.san_check.specs.inner.Walks.{seen, seen_all}
 
 pub seen_append : (walk : Walk) (us vs : Entries) → seen_all walk (us ++ vs) ≡ seen_all (seen_all walk us) vs
@@ -34,7 +34,7 @@ unfolding seen
 stays n f [] = refl
 stays n f (e ∷ es) = stays (min (suc n) 4294967295) f es
 
-found_from : (n : ℕ) (es : Entries) → (seen_all (record { words = min n 4294967295; fault = None }) es).fault ≡ option_map told (first_fault n es)
+found_from : (n : ℕ) (es : Entries) → (seen_all (record { words = min n 4294967295; fault = None }) es).fault ≡ option_map reported (first_fault n es)
 unfolding seen
 found_from n [] = refl
 found_from n (None ∷ es) =
@@ -43,5 +43,5 @@ found_from n (None ∷ es) =
 found_from n (Some c ∷ es) = stays (min (suc (min n 4294967295)) 4294967295) (record { code = c; word = min n 4294967295 }) es
 
 -- a walk from the start finds the first fault
-pub first_of_walk : (es : Entries) → (seen_all (record { words = 0; fault = None }) es).fault ≡ option_map told (first_fault 0 es)
+pub first_of_walk : (es : Entries) → (seen_all (record { words = 0; fault = None }) es).fault ≡ option_map reported (first_fault 0 es)
 first_of_walk es = found_from 0 es

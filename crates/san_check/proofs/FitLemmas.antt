@@ -1,4 +1,5 @@
 -- Without a fault each place of an atomic has cells of its own, and what names them is below their number.
+use Rattle.san_base.proofs.Bools.{not_false, and_true}
 use Rattle.std.proofs.Common.{◌≡◌, ℕ, ℤ, pos, ◌+◌, ◌^◌, ◌<◌, ◌≤◌, Bool, true, false, not, ◌&&◌, nat_le, List, min, Option, None, is_some, IsTrue, sym, ap, subst, ◌∙◌, true≢false, arith}
 use Rattle.std.proofs.lemmas.Bool.{lt-ltb, le-leb}
 use denote.Hole.Carrier
@@ -20,7 +21,7 @@ use Rattle.san_check.specs.walk.Entries.{Entries, code}
 use Rattle.san_check.specs.walk.Expression.{Places, is_array, whole, element, entry, expr_step, first_entries}
 use Rattle.san_check.specs.build.Cells.{CellTable, cells_at}
 use Rattle.san_check.specs.build.Expression.{expr_of_step, expr_of}
-use Rattle.san_check.proofs.FreeLemmas.{Free, free_left, free_right, code_free, else_first, not_false}
+use Rattle.san_check.proofs.FreeLemmas.{Free, free_left, free_right, code_free, else_first}
 
 -- cells below a number
 abbrev pub In : Cells → ℕ → Type 0
@@ -35,10 +36,6 @@ pub record Placed (places : Places) (cells : CellTable) (k : ℕ) : Type 0 where
 abbrev pub Good : ℕ → Expr → Type 0
 Good k e = IsTrue (places_below e k) × IsTrue (has_lengths e)
 
-pub both : (a b : Bool) → a ≡ true → b ≡ true → (a && b) ≡ true
-both true b h k = k
-both false b h k = h
-
 pub good_number : (k : ℕ) (n : ℤ) → Good k (leaf.Number n)
 unfolding expr.roll-Expr denote.Hole.Carrier.roll
 good_number k n = (ap (λ (b : Bounded). b k) (fold-roll-Expr Bounded places_below_step (Expr-F.Number n)), fold-roll-Expr Bool lengths_step (Expr-F.Number n))
@@ -52,9 +49,9 @@ unfolding expr.roll-Expr denote.Hole.Carrier.roll
 good_cell k c i few h g =
     let small : c.first + c.length ≤ 4294967296 = omega (arith, few, h.1) in (
       ap (λ (b : Bounded). b k) (fold-roll-Expr Bounded places_below_step (Expr-F.Cell c.first c.length i))
-          ∙ both (nat_le (c.first + c.length) k && nat_le (c.first + c.length) (2 ^ 32)) (places_below i k)
-          (both (nat_le (c.first + c.length) k) (nat_le (c.first + c.length) (2 ^ 32)) (le-leb (c.first + c.length) k h.1) (le-leb (c.first + c.length) (2 ^ 32) small)) g.0,
-      fold-roll-Expr Bool lengths_step (Expr-F.Cell c.first c.length i) ∙ both (nat_le 1 c.length) (has_lengths i) (le-leb 1 c.length h.0) g.1,
+          ∙ and_true (nat_le (c.first + c.length) k && nat_le (c.first + c.length) (2 ^ 32)) (places_below i k)
+          (and_true (nat_le (c.first + c.length) k) (nat_le (c.first + c.length) (2 ^ 32)) (le-leb (c.first + c.length) k h.1) (le-leb (c.first + c.length) (2 ^ 32) small)) g.0,
+      fold-roll-Expr Bool lengths_step (Expr-F.Cell c.first c.length i) ∙ and_true (nat_le 1 c.length) (has_lengths i) (le-leb 1 c.length h.0) g.1,
     )
 
 good_neg : (k : ℕ) (a : Expr) → Good k a → Good k (expr.Neg a)
@@ -68,8 +65,8 @@ good_not k a g = (ap (λ (b : Bounded). b k) (fold-roll-Expr Bounded places_belo
 good_binary : (k : ℕ) (o : Op) (a b : Expr) → Good k a → Good k b → Good k (expr.Binary o a b)
 unfolding expr.roll-Expr denote.Hole.Carrier.roll
 good_binary k o a b g h = (
-  ap (λ (b : Bounded). b k) (fold-roll-Expr Bounded places_below_step (Expr-F.Binary o a b)) ∙ both (places_below a k) (places_below b k) g.0 h.0,
-  fold-roll-Expr Bool lengths_step (Expr-F.Binary o a b) ∙ both (has_lengths a) (has_lengths b) g.1 h.1,
+  ap (λ (b : Bounded). b k) (fold-roll-Expr Bounded places_below_step (Expr-F.Binary o a b)) ∙ and_true (places_below a k) (places_below b k) g.0 h.0,
+  fold-roll-Expr Bool lengths_step (Expr-F.Binary o a b) ∙ and_true (has_lengths a) (has_lengths b) g.1 h.1,
 )
 
 entry_free : (late : Bool) (o : Option ℕ) → entry late o ≡ None → o ≡ None

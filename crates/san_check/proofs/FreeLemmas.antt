@@ -33,10 +33,6 @@ pub else_second : (a b : Option ℕ) → (a else b) ≡ None → b ≡ None
 else_second None b h = h
 else_second (Some n) b h = absurd (true≢false (ap is_some h))
 
-pub not_false : (b : Bool) → not b ≡ false → b ≡ true
-not_false true h = refl
-not_false false h = absurd (true≢false h)
-
 -- there is room for one more
 pub room : (m n c : ℕ) → code c (nat_le m n) ≡ None → n < m
 room m n c h = leb-false m n (code_free c (nat_le m n) h)

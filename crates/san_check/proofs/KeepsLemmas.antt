@@ -1,4 +1,5 @@
 -- What is shared shows what the place that it was shows.
+use Rattle.san_base.proofs.Bools.{not_false}
 use Rattle.std.proofs.Common.{◌≡◌, ℕ, zero, suc, ◌+◌, ◌<◌, ◌≤◌, Bool, true, false, not, ◌&&◌, ◌||◌, nat_eq, nat_le, List, [], ◌∷◌, ◌++◌, length, map, Option, Some, None, is_some, is_none, refl, sym, ap, ap₂, subst, ◌∙◌, true≢false, arith}
 use Rattle.std.proofs.lemmas.Bool.{eqb-true}
 use Rattle.std.proofs.lemmas.List.Quantifiers.{position-Some}
@@ -26,7 +27,7 @@ use Rattle.san_check.specs.walk.Reward.{rewards_entries}
 use Rattle.san_check.specs.walk.Model.{syntax_entries, syntax_fault}
 use Rattle.san_check.specs.build.Composition.{number, child_places, part_numbers, share_of, child_of, node_of, atomics_after, nodes_from, nodes_of, place_at, places_at, shown_at, shown_of}
 use Rattle.san_check.proofs.TableLemmas.{declared_last}
-use Rattle.san_check.proofs.FreeLemmas.{Free, free_of, free_left, free_right, code_free, else_first, else_second, not_false}
+use Rattle.san_check.proofs.FreeLemmas.{Free, free_of, free_left, free_right, code_free, else_first, else_second}
 use Rattle.san_check.proofs.TreeLemmas.{models_grow, models_few, models_free, children_free, grows}
 use Rattle.san_check.proofs.NumberLemmas.{number_is, found_front}
 use Rattle.san_check.proofs.OnceLemmas.{children_same, shown_same}

@@ -1,4 +1,5 @@
 -- Without a fault an activity is as it is accepted.
+use Rattle.san_base.proofs.Bools.{and_true}
 use Rattle.std.proofs.Common.{◌≡◌, ℕ, ◌≤◌, true, nat_lt, ◌++◌, map, Option, Some, None, refl, sym, subst, arith}
 use Rattle.std.proofs.lemmas.Bool.{ltb-false}
 use Rattle.std.specs.Prelude.{unwrap_or}
@@ -18,7 +19,7 @@ use Rattle.san_check.specs.build.Expression.{expr_of, dist_of}
 use Rattle.san_check.specs.build.Activity.{input_of, pair_of, kind_of, activity_of}
 use Rattle.san_check.specs.Formed.{IsFormedTiming, IsFormedAct}
 use Rattle.san_check.proofs.FreeLemmas.{Free, free_left, free_right, code_free}
-use Rattle.san_check.proofs.FitLemmas.{Placed, both, expr_good}
+use Rattle.san_check.proofs.FitLemmas.{Placed, expr_good}
 use Rattle.san_check.proofs.ActLemmas.{GoodPart, inputs_good, cases_good, some_cases}
 use Rattle.san_check.proofs.DelayLemmas.{dist_good}
 
@@ -28,15 +29,15 @@ unfolding kind_of pair_of pair_entries
 timed_good places cells k at t priority None is formed f g =
     let d = dist_good places cells k at t.delay formed f in
     subst (λ (p : Option (Ast × Ast)). GoodPart (kind_below (kind_of cells (Some (record { delay = t.delay; pair = p })) priority) k) (kind_has_lengths (kind_of cells (Some (record { delay = t.delay; pair = p })) priority)) (IsAcceptedKind (kind_of cells (Some (record { delay = t.delay; pair = p })) priority))) (sym is)
-    (record { below = d.below; lengths = both (dist_has_lengths (dist_of cells t.delay)) true d.lengths refl; accepted = d.accepted })
+    (record { below = d.below; lengths = and_true (dist_has_lengths (dist_of cells t.delay)) true d.lengths refl; accepted = d.accepted })
 timed_good places cells k at t priority (Some p) is formed f g =
     let d = dist_good places cells k at t.delay formed f in
     let a = expr_good places cells k at p.0 (free_left (expr_entries places p.0) (expr_entries places p.1) g) in
     let b = expr_good places cells k at p.1 (free_right (expr_entries places p.0) (expr_entries places p.1) g) in
     subst (λ (p : Option (Ast × Ast)). GoodPart (kind_below (kind_of cells (Some (record { delay = t.delay; pair = p })) priority) k) (kind_has_lengths (kind_of cells (Some (record { delay = t.delay; pair = p })) priority)) (IsAcceptedKind (kind_of cells (Some (record { delay = t.delay; pair = p })) priority))) (sym is)
     (record {
-      below = both (dist_below (dist_of cells t.delay) k) _ d.below (both (places_below (expr_of cells p.0) k) _ a.0 b.0);
-      lengths = both (dist_has_lengths (dist_of cells t.delay)) _ d.lengths (both (has_lengths (expr_of cells p.0)) _ a.1 b.1);
+      below = and_true (dist_below (dist_of cells t.delay) k) _ d.below (and_true (places_below (expr_of cells p.0) k) _ a.0 b.0);
+      lengths = and_true (dist_has_lengths (dist_of cells t.delay)) _ d.lengths (and_true (has_lengths (expr_of cells p.0)) _ a.1 b.1);
       accepted = d.accepted;
     })
 
@@ -66,8 +67,8 @@ activity_good places cells k at a formed f =
     let cases = cases_good places cells k at a.cases (free_right timing outs f2) in
     let some = some_cases cells a.cases formed.cases in
     record {
-      places = both (kind_below (kind_of cells a.timing a.priority) k) _ kind.below (both (inputs_below (map (input_of cells) a.inputs) k) _ inputs.below cases.below);
-      lengths = both (kind_has_lengths (kind_of cells a.timing a.priority)) _ kind.lengths (both (all_true (map input_has_lengths (map (input_of cells) a.inputs))) _ inputs.lengths cases.lengths);
+      places = and_true (kind_below (kind_of cells a.timing a.priority) k) _ kind.below (and_true (inputs_below (map (input_of cells) a.inputs) k) _ inputs.below cases.below);
+      lengths = and_true (kind_has_lengths (kind_of cells a.timing a.priority)) _ kind.lengths (and_true (all_true (map input_has_lengths (map (input_of cells) a.inputs))) _ inputs.lengths cases.lengths);
       kind = kind.accepted;
       inputs = inputs.accepted;
       outputs = cases.accepted;

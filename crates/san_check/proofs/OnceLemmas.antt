@@ -1,4 +1,5 @@
 -- The shares of a syntax without a fault have at most one place of each child.
+use Rattle.san_base.proofs.Bools.{not_false}
 use Rattle.std.proofs.Common.{◌≡◌, ℕ, zero, suc, ◌+◌, ◌≤◌, Bool, true, false, not, ◌&&◌, ◌||◌, nat_eq, List, [], ◌∷◌, ◌++◌, length, map, Option, None, refl, sym, ap, subst, ◌∙◌, true≢false, arith}
 use Rattle.std.proofs.lemmas.Bool.{eqb-true}
 use Rattle.std.proofs.lemmas.List.Elements.{All-map, All-cons}
@@ -19,7 +20,7 @@ use Rattle.san_check.specs.walk.Composition.{Models, Children, children_entries,
 use Rattle.san_check.specs.walk.Reward.{rewards_entries}
 use Rattle.san_check.specs.walk.Model.{syntax_entries, syntax_fault}
 use Rattle.san_check.specs.build.Composition.{number, part_numbers, share_of, node_of, atomics_after, nodes_from, nodes_of}
-use Rattle.san_check.proofs.FreeLemmas.{Free, free_of, free_left, free_right, code_free, else_first, else_second, not_false}
+use Rattle.san_check.proofs.FreeLemmas.{Free, free_of, free_left, free_right, code_free, else_first, else_second}
 use Rattle.san_check.proofs.TreeLemmas.{models_grow, grows, children_free}
 use Rattle.san_check.proofs.NumberLemmas.{numbers_apart, found_front, known_itself, known_stays}
 use Rattle.std.specs.Prelude.{unwrap_or}

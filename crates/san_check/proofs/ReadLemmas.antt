@@ -20,7 +20,7 @@ use Rattle.san_text.specs.Activities.{place_at, starts_input, input_at, starts_a
 use Rattle.san_text.specs.Models.{syntax_at, head_at, starts_model, model_at, atomic_at, join_at, child_at, share_at, rep_at, copied_at, times_at, shown_at, system_at, reward_at, ended}
 use Rattle.san_text.proofs.FrontLemmas.{bind_ok, ok_is, next_is}
 use Rattle.san_text.proofs.StepLemmas.{signed}
-use Rattle.san_text.proofs.LocalLemmas.{Local, name_local, all_local}
+use Rattle.san_text.proofs.LocalLemmas.{Local, name_local, all_local, tail_le}
 use Rattle.san_text.proofs.LocalGrammarLemmas.{places_listed, inputs_listed, timing_local, priority_local, acts_listed}
 use Rattle.san_text.proofs.LocalModelLemmas.{models_listed, head_local}
 use Rattle.san_check.specs.Formed.{IsFormedDist, IsFormedTiming}
@@ -194,12 +194,8 @@ instant_parts version room ws p le e =
     subst (λ (z : ActDecl × List Word). Parts room z.0) (ok_is _ p r.2)
     (record { timing = tt; cases = cases_formed version room i.0.1 c.0 (omega (arith, le, zeroth, one, behind, two, three)) c.1 })
 
-tail_within : (ws : List Word) → length (tail ws) ≤ length ws
-tail_within [] = omega arith
-tail_within (w ∷ ws) = omega arith
-
 act_by : (version room : ℕ) (ws : List Word) (p : ActDecl × List Word) (b : Bool) → length ws ≤ room → cond b (timed_at version (tail ws)) (instant_at version ws) ≡ Ok p → Parts room p.0
-act_by version room ws p true le e = timed_parts version room (tail ws) p (omega (arith, le, tail_within ws)) e
+act_by version room ws p true le e = timed_parts version room (tail ws) p (omega (arith, le, tail_le ws)) e
 act_by version room ws p false le e = instant_parts version room ws p le e
 
 act_parts : (version room : ℕ) (act : ActDecl) → Got (act_at version) room act → Parts room act
@@ -246,7 +242,7 @@ rep_parts room ws p e =
     subst (λ (z : ModelDecl × List Word). ModelParts room z.0) (ok_is _ p r.2) tt
 
 model_by : (version room : ℕ) (ws : List Word) (p : ModelDecl × List Word) (a b : Bool) → length ws ≤ room → cond a (atomic_at version (tail ws)) (cond b (join_at (tail ws)) (rep_at ws)) ≡ Ok p → ModelParts room p.0
-model_by version room ws p true b le e = atomic_parts version room (tail ws) p (omega (arith, le, tail_within ws)) e
+model_by version room ws p true b le e = atomic_parts version room (tail ws) p (omega (arith, le, tail_le ws)) e
 model_by version room ws p false true le e = join_parts room (tail ws) p e
 model_by version room ws p false false le e = rep_parts room ws p e
 

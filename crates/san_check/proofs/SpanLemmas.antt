@@ -1,4 +1,5 @@
 -- Without a fault the rewards are few and each over a span, and each term's reward is one of them.
+use Rattle.san_base.proofs.Bools.{not_false}
 use Rattle.std.proofs.Common.{◌≡◌, ℕ, suc, ◌+◌, ◌<◌, ◌≤◌, Bool, true, false, cond, not, ◌||◌, nat_le, nat_lt, List, [], ◌∷◌, ◌++◌, length, map, Option, Some, None, All, get_or, refl, sym, ap, subst, ◌∙◌, true≢false, arith}
 use Rattle.std.proofs.lemmas.Bool.{ltb-true, ltb-false}
 use Rattle.std.proofs.lemmas.List.Elements.{All-nil, All-cons, All-append, All-map}
@@ -13,7 +14,7 @@ use Rattle.san_text.specs.declared.syntax.SpanDecl.TheVariants as decl
 use Rattle.san_text.specs.declared.syntax.TermDecl.{TermDecl}
 use Rattle.san_text.specs.declared.syntax.TermDecl.TheVariants as term
 use Rattle.san_net.specs.Accepted as net
-use Rattle.san_net.specs.Laid.{IsSpan, IsInterval, MayBeTold}
+use Rattle.san_net.specs.Laid.{IsSpan, IsInterval, TakesImpulses}
 use Rattle.san_net.specs.declared.atomic.Atomic.{Atomic}
 use Rattle.san_net.specs.declared.atomic.RateTerm.{RateTerm}
 use Rattle.san_net.specs.declared.atomic.ImpulseTerm.{ImpulseTerm}
@@ -31,7 +32,7 @@ use Rattle.san_check.specs.build.Composition.{capped, number}
 use Rattle.san_check.specs.build.Expression.{expr_of}
 use Rattle.san_check.specs.build.Term.{rate_in, impulse_in, rates_in, impulses_in, rates_on, impulses_on, all_rates, all_impulses}
 use Rattle.san_check.specs.build.Atomic.{atomic_of, atomic_in, atomics_from}
-use Rattle.san_check.proofs.FreeLemmas.{Free, free_left, free_right, code_free, else_first, else_second, not_false, room}
+use Rattle.san_check.proofs.FreeLemmas.{Free, free_left, free_right, code_free, else_first, else_second, room}
 use Rattle.san_check.proofs.ListedLemmas.{or_left, or_right}
 
 pub rewards_few : (models : Models) (rewards : Acts) (n : ℕ) (rs : List RewardDecl) → n ≤ 64 → Free (rewards_entries models rewards n rs) → n + length rs ≤ 64
@@ -114,25 +115,25 @@ IsRateBelow whole t = t.reward < length whole
 abbrev IsImpulseBelow : List Reward → ImpulseTerm → Type 0
 IsImpulseBelow whole t = t.reward < length whole
 
-abbrev IsTold : List Reward → ImpulseTerm → Type 0
-IsTold whole t = MayBeTold (slice_get whole t.reward)
+abbrev TakesTerm : List Reward → ImpulseTerm → Type 0
+TakesTerm whole t = TakesImpulses (slice_get whole t.reward)
 
 -- the terms of an atomic are of these rewards
-pub record Told (whole : List Reward) (us : List RateTerm) (vs : List ImpulseTerm) : Type 0 where
+pub record TermsFit (whole : List Reward) (us : List RateTerm) (vs : List ImpulseTerm) : Type 0 where
   pub rates : All (λ t. t.reward < length whole) us
   pub impulses : All (λ t. t.reward < length whole) vs
-  pub told : All (λ t. MayBeTold (slice_get whole t.reward)) vs
+  pub intervals : All (λ t. TakesImpulses (slice_get whole t.reward)) vs
 
-both_told : (whole : List Reward) (us us' : List RateTerm) (vs vs' : List ImpulseTerm) → Told whole us vs → Told whole us' vs' → Told whole (us ++ us') (vs ++ vs')
-both_told whole us us' vs vs' h t = record {
+both_fit : (whole : List Reward) (us us' : List RateTerm) (vs vs' : List ImpulseTerm) → TermsFit whole us vs → TermsFit whole us' vs' → TermsFit whole (us ++ us') (vs ++ vs')
+both_fit whole us us' vs vs' h t = record {
   rates = All-append (IsRateBelow whole) us us' h.rates t.rates;
   impulses = All-append (IsImpulseBelow whole) vs vs' h.impulses t.impulses;
-  told = All-append (IsTold whole) vs vs' h.told t.told;
+  intervals = All-append (TakesTerm whole) vs vs' h.intervals t.intervals;
 }
 
-one_told : (models : Models) (atomics acts : Acts) (cells : CellTable) (name : List ℕ) (whole : List Reward) (n : ℕ) (d : RewardDecl) → slice_get whole n ≡ Some (reward_of atomics d) → Free (reward_entries models d) → Told whole (rates_on cells name n d) (impulses_on cells acts name n d)
+one_fits : (models : Models) (atomics acts : Acts) (cells : CellTable) (name : List ℕ) (whole : List Reward) (n : ℕ) (d : RewardDecl) → slice_get whole n ≡ Some (reward_of atomics d) → Free (reward_entries models d) → TermsFit whole (rates_on cells name n d) (impulses_on cells acts name n d)
 unfolding reward_entries
-one_told models atomics acts cells name whole n d at f =
+one_fits models atomics acts cells name whole n d at f =
     let places = (known_as models d.atomic).places in
     let known = (known_as models d.atomic).acts in
     let below = slice_get_within whole n (reward_of atomics d) at in
@@ -141,42 +142,42 @@ one_told models atomics acts cells name whole n d at f =
     record {
       rates = taken (IsRateOf n) (IsRateBelow whole) own (rates_in cells n d.terms) (λ t is. subst (λ (m : ℕ). m < length whole) (sym is) below) (rates_of_one cells n d.terms);
       impulses = taken (IsOf (is_at d.span) n) (IsImpulseBelow whole) own (impulses_in cells acts n d.terms) (λ t is. subst (λ (m : ℕ). m < length whole) (sym is.0) below) impulses;
-      told = taken (IsOf (is_at d.span) n) (IsTold whole) own (impulses_in cells acts n d.terms) (λ t is. subst (λ (o : Option Reward). MayBeTold o) (sym (ap (slice_get whole) is.0 ∙ at)) (interval d.span is.1)) impulses;
+      intervals = taken (IsOf (is_at d.span) n) (TakesTerm whole) own (impulses_in cells acts n d.terms) (λ t is. subst (λ (o : Option Reward). TakesImpulses o) (sym (ap (slice_get whole) is.0 ∙ at)) (interval d.span is.1)) impulses;
     }
 
 -- rewards behind n others, which stand there in the whole
-rewards_told : (models : Models) (atomics acts : Acts) (cells : CellTable) (name : List ℕ) (whole : List Reward) (known : Acts) (n : ℕ) (rs : List RewardDecl) → n ≤ 64 → ((i : ℕ) → slice_get whole (n + i) ≡ slice_get (map (reward_of atomics) rs) i)
-    → Free (rewards_entries models known n rs) → Told whole (all_rates cells name n rs) (all_impulses cells acts name n rs)
+rewards_fit : (models : Models) (atomics acts : Acts) (cells : CellTable) (name : List ℕ) (whole : List Reward) (known : Acts) (n : ℕ) (rs : List RewardDecl) → n ≤ 64 → ((i : ℕ) → slice_get whole (n + i) ≡ slice_get (map (reward_of atomics) rs) i)
+    → Free (rewards_entries models known n rs) → TermsFit whole (all_rates cells name n rs) (all_impulses cells acts name n rs)
 unfolding reward_code
-rewards_told models atomics acts cells name whole known n [] lt at f = record { rates = All-nil (IsRateBelow whole); impulses = All-nil (IsImpulseBelow whole); told = All-nil (IsTold whole) }
-rewards_told models atomics acts cells name whole known n (d ∷ ds) lt at f =
+rewards_fit models atomics acts cells name whole known n [] lt at f = record { rates = All-nil (IsRateBelow whole); impulses = All-nil (IsImpulseBelow whole); intervals = All-nil (TakesTerm whole) }
+rewards_fit models atomics acts cells name whole known n (d ∷ ds) lt at f =
     let fits = room 64 n 45 (else_second (code 20 (is_known known d.name)) (code 45 (nat_le 64 n)) f.0) in
     let next = declared known d.name tt in
     let up : n + 1 ≡ capped (n + 1) = omega (arith, fits) in
     let here : n ≡ n + 0 = omega arith in
     let us = rates_on cells name n d in
     let vs = impulses_on cells acts name n d in
-    let h = one_told models atomics acts cells name whole n d (ap (slice_get whole) here ∙ at 0) (free_left (reward_entries models d) (rewards_entries models next (n + 1) ds) f.1) in
-    let t = rewards_told models atomics acts cells name whole next (n + 1) ds (omega (arith, fits)) (λ i. let on : (n + 1) + i ≡ n + suc i = omega arith in ap (slice_get whole) on ∙ at (suc i)) (free_right (reward_entries models d) (rewards_entries models next (n + 1) ds) f.1) in
-    subst (λ (m : ℕ). Told whole (us ++ all_rates cells name m ds) (vs ++ all_impulses cells acts name m ds)) up (both_told whole us (all_rates cells name (n + 1) ds) vs (all_impulses cells acts name (n + 1) ds) h t)
+    let h = one_fits models atomics acts cells name whole n d (ap (slice_get whole) here ∙ at 0) (free_left (reward_entries models d) (rewards_entries models next (n + 1) ds) f.1) in
+    let t = rewards_fit models atomics acts cells name whole next (n + 1) ds (omega (arith, fits)) (λ i. let on : (n + 1) + i ≡ n + suc i = omega arith in ap (slice_get whole) on ∙ at (suc i)) (free_right (reward_entries models d) (rewards_entries models next (n + 1) ds) f.1) in
+    subst (λ (m : ℕ). TermsFit whole (us ++ all_rates cells name m ds) (vs ++ all_impulses cells acts name m ds)) up (both_fit whole us (all_rates cells name (n + 1) ds) vs (all_impulses cells acts name (n + 1) ds) h t)
 
-abbrev pub AllTold : List Reward → Atomic → Type 0
-AllTold whole x = Told whole x.rates x.impulses
+abbrev pub AllFit : List Reward → Atomic → Type 0
+AllFit whole x = TermsFit whole x.rates x.impulses
 
-pub atomics_told : (models : Models) (atomics : Acts) (rewards : List RewardDecl) (ms : List ModelDecl) → Free (rewards_entries models [] 0 rewards) → All (AllTold (map (reward_of atomics) rewards)) (atomics_from rewards ms)
+pub atomics_fit : (models : Models) (atomics : Acts) (rewards : List RewardDecl) (ms : List ModelDecl) → Free (rewards_entries models [] 0 rewards) → All (AllFit (map (reward_of atomics) rewards)) (atomics_from rewards ms)
 unfolding atomic_in
-atomics_told models atomics rewards [] f = All-nil (AllTold (map (reward_of atomics) rewards))
-atomics_told models atomics rewards (model.Atomic name places acts ∷ ms) f =
+atomics_fit models atomics rewards [] f = All-nil (AllFit (map (reward_of atomics) rewards))
+atomics_fit models atomics rewards (model.Atomic name places acts ∷ ms) f =
     let whole = map (reward_of atomics) rewards in
-    All-cons (AllTold whole) (atomic_of name places acts rewards) (atomics_from rewards ms)
-    (rewards_told models atomics (all_acts [] acts) (all_cells [] 0 places) name whole [] 0 rewards (omega arith) (λ i. let from : 0 + i ≡ i = omega arith in ap (slice_get whole) from) f)
-    (atomics_told models atomics rewards ms f)
-atomics_told models atomics rewards (model.Join name children shares ∷ ms) f = atomics_told models atomics rewards ms f
-atomics_told models atomics rewards (model.Rep name of times shares ∷ ms) f = atomics_told models atomics rewards ms f
+    All-cons (AllFit whole) (atomic_of name places acts rewards) (atomics_from rewards ms)
+    (rewards_fit models atomics (all_acts [] acts) (all_cells [] 0 places) name whole [] 0 rewards (omega arith) (λ i. let from : 0 + i ≡ i = omega arith in ap (slice_get whole) from) f)
+    (atomics_fit models atomics rewards ms f)
+atomics_fit models atomics rewards (model.Join name children shares ∷ ms) f = atomics_fit models atomics rewards ms f
+atomics_fit models atomics rewards (model.Rep name of times shares ∷ ms) f = atomics_fit models atomics rewards ms f
 
 -- the rewards of an atomic's terms
-pub told_known : (whole : List Reward) (x : Atomic) → AllTold whole x → All (λ r. r < length whole) (net.rewards_of x)
-told_known whole x h =
+pub fit_known : (whole : List Reward) (x : Atomic) → AllFit whole x → All (λ r. r < length whole) (net.rewards_of x)
+fit_known whole x h =
     All-append (IsBelow whole) (map (λ (t : RateTerm). t.reward) x.rates) (map (λ (t : ImpulseTerm). t.reward) x.impulses)
     (All-map (IsBelow whole) (λ (t : RateTerm). t.reward) x.rates h.rates)
     (All-map (IsBelow whole) (λ (t : ImpulseTerm). t.reward) x.impulses h.impulses)

@@ -1,4 +1,5 @@
 -- Without a fault an atomic's terms are as they are accepted.
+use Rattle.san_base.proofs.Bools.{not_false}
 use Rattle.std.proofs.Common.{◌≡◌, ℕ, ◌+◌, ◌<◌, ◌≤◌, Bool, true, false, not, nat_le, List, [], ◌∷◌, length, Option, None, is_some, All, refl, sym, ap, subst, true≢false, arith}
 use Rattle.std.proofs.lemmas.Bool.{leb-false}
 use Rattle.std.proofs.lemmas.List.Elements.{All-cons, All-nil}
@@ -20,7 +21,7 @@ use Rattle.san_check.specs.build.Cells.{CellTable}
 use Rattle.san_check.specs.build.Composition.{number}
 use Rattle.san_check.specs.build.Expression.{expr_of}
 use Rattle.san_check.specs.build.Term.{rate_in, impulse_in, rates_in, impulses_in}
-use Rattle.san_check.proofs.FreeLemmas.{Free, free_left, free_right, code_free, else_first, else_second, not_false}
+use Rattle.san_check.proofs.FreeLemmas.{Free, free_left, free_right, code_free, else_first, else_second}
 use Rattle.san_check.proofs.ListedLemmas.{nothing_behind}
 use Rattle.san_check.proofs.TreeLemmas.{number_below}
 use Rattle.san_check.proofs.FitLemmas.{Placed, first_good, expr_good}

@@ -1,4 +1,5 @@
 -- The nodes of a syntax without a fault make a tree.
+use Rattle.san_base.proofs.Bools.{not_false}
 use Rattle.std.proofs.Common.{◌≡◌, ℕ, zero, suc, ◌+◌, ◌<◌, ◌≤◌, Bool, true, false, cond, not, List, [], ◌∷◌, ◌++◌, length, map, Option, Some, None, is_some, nat_le, nat_lt, refl, sym, ap, subst, ◌∙◌, true≢false, arith, append_assoc, length-append}
 use Rattle.std.proofs.lemmas.List.{length-map}
 use Rattle.std.proofs.lemmas.List.Elements.{All-cons, All-map}
@@ -17,14 +18,14 @@ use Rattle.san_tree.specs.Places.{node_at}
 use Rattle.san_tree.specs.Trees.{named, IsNode, IsTree}
 use Rattle.san_check.specs.declared.walk.Fault.{Fault}
 use Rattle.san_check.specs.Tables.{Table, Pairs, is_known, declared, all_paired}
-use Rattle.san_check.specs.walk.Entries.{code, ◌else◌, told}
+use Rattle.san_check.specs.walk.Entries.{code, ◌else◌, reported}
 use Rattle.san_check.specs.walk.Expression.{Places}
 use Rattle.san_check.specs.walk.Composition.{Models, Children, child_code, model_code, children_entries, with_child, all_children, shown_by, first_place, parts_entries, share_code, shares_entries, with_share, shown_code, shown_entries, with_shown, name_code, name_of, known_of, model_entries, models_entries, with_model, all_models}
 use Rattle.san_check.specs.walk.Reward.{rewards_entries}
 use Rattle.san_check.specs.walk.Model.{syntax_entries, syntax_fault}
 use Rattle.san_check.specs.build.Composition.{number, child_of, share_of, node_of, atomics_after, nodes_from, nodes_of, root_of}
 use Rattle.san_check.proofs.TableLemmas.{declared_last, declared_known}
-use Rattle.san_check.proofs.FreeLemmas.{Free, free_of, free_left, free_right, code_free, else_second, not_false, room}
+use Rattle.san_check.proofs.FreeLemmas.{Free, free_of, free_left, free_right, code_free, else_second, room}
 
 -- tables grow behind what they have
 grown_by : {V : Type 0} (b : Bool) (t : Table V) (name : List ℕ) (v : V) → is_known t name ≡ b → (rest : Table V) × (declared t name v ≡ t ++ rest) × (length (declared t name v) ≤ suc (length t))
@@ -166,12 +167,12 @@ is_tree s h =
     nothing_behind [] = refl
     nothing_behind (x ∷ xs) = ap (λ ys. x ∷ ys) (nothing_behind xs)
 
-none_told : (o : Option Fault) → option_map told o ≡ None → o ≡ None
-none_told None h = refl
-none_told (Some f) h = absurd (true≢false (ap is_some h))
+none_reported : (o : Option Fault) → option_map reported o ≡ None → o ≡ None
+none_reported None h = refl
+none_reported (Some f) h = absurd (true≢false (ap is_some h))
 
-pub passes : (s : Syntax) (found : Option Fault) → found ≡ option_map told (syntax_fault s) → found ≡ None → syntax_fault s ≡ None
-passes s found h n = none_told (syntax_fault s) (sym h ∙ n)
+pub passes : (s : Syntax) (found : Option Fault) → found ≡ option_map reported (syntax_fault s) → found ≡ None → syntax_fault s ≡ None
+passes s found h n = none_reported (syntax_fault s) (sym h ∙ n)
 
 pub made_tree : (s : Syntax) (models : Models) (decls : List ModelDecl) (system : List ℕ) (nodes : List Node) (root : ℕ) → syntax_fault s ≡ None → models ≡ all_models [] s.models → decls ≡ s.models → system ≡ s.system
     → nodes ≡ nodes_from models 0 decls → root ≡ number models system → IsTree nodes root

@@ -4,11 +4,11 @@ use Rattle.std.specs.Option.{option_map}
 use Rattle.san_text.specs.declared.syntax.Syntax.{Syntax}
 use Rattle.san_check.specs.declared.tree.CheckFault.{CheckFault}
 use Rattle.san_check.specs.declared.tree.CheckFault.TheVariants as fault
-use Rattle.san_check.specs.walk.Entries.{told}
+use Rattle.san_check.specs.walk.Entries.{reported}
 use Rattle.san_check.specs.walk.Model.{syntax_fault}
 
 abbrev pub Refuses : CheckFault → Syntax → Type 0
-Refuses (fault.Refused code word) s = option_map told (syntax_fault s) ≡ Some (record { code = code; word = word })
+Refuses (fault.Refused code word) s = option_map reported (syntax_fault s) ≡ Some (record { code = code; word = word })
 Refuses fault.NoMemory s = Unit {0}
 
 -- a syntax is refused at its first fault, and passes where it has none

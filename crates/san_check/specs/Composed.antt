@@ -5,8 +5,8 @@ use Rattle.san_tree.specs.declared.node.Node.TheVariants.{Leaf, Join, Rep}
 use Rattle.san_tree.specs.Places.{node_at, SharesApart, Keeps}
 use Rattle.san_net.specs.Accepted.{IsAccepted, rewards_of}
 use Rattle.san_net.specs.Apart.{AreApart}
-use Rattle.san_net.specs.Laid.{IsSpan, MayBeTold}
-use Rattle.san_net.specs.Names.{is_name}
+use Rattle.san_net.specs.Laid.{IsSpan, TakesImpulses}
+use Rattle.san_base.specs.Names.{is_name}
 use Rattle.san_net.specs.declared.atomic.Atomic.{Atomic}
 use Rattle.san_net.specs.declared.part.Reward.{Reward}
 
@@ -28,7 +28,7 @@ pub record IsComposed (system : List ℕ) (atomics : List Atomic) (nodes : List 
   pub spans : All (λ r. IsSpan r.span) rewards
   pub on : All (λ r. r.atomic < length atomics) rewards
   pub known : All (λ x. All (λ r. r < length rewards) (rewards_of x)) atomics
-  pub told : All (λ x. All (λ t. MayBeTold (slice_get rewards t.reward)) x.impulses) atomics
+  pub intervals : All (λ x. All (λ t. TakesImpulses (slice_get rewards t.reward)) x.impulses) atomics
   -- a leaf's atomic is there
   pub leaves : (n a : ℕ) → n < length nodes → node_at nodes n ≡ Leaf a → a < length atomics
   -- each cell of an atomic is an element of a place, no two the same

@@ -10,7 +10,7 @@ use Rattle.san_text.specs.declared.syntax.DistDecl.TheVariants as dist
 use Rattle.san_text.specs.declared.syntax.ModelDecl.{ModelDecl}
 use Rattle.san_text.specs.declared.syntax.ModelDecl.TheVariants as model
 use Rattle.san_text.specs.declared.syntax.Syntax.{Syntax}
-use Rattle.san_net.specs.Names.{is_name}
+use Rattle.san_base.specs.Names.{is_name}
 
 -- a table has an entry
 abbrev pub IsFormedDist : DistDecl → Type 0

@@ -48,7 +48,7 @@ pub(crate) const TABLE_DELAY: u32 = 34;
 /// A weight of a table makes the sum too large.
 pub(crate) const WEIGHTS_TOO_LARGE: u32 = 35;
 
-/// All weights of a table are 0; told at the last.
+/// All weights of a table are 0; found at the last.
 pub(crate) const WEIGHTS_ARE_ZERO: u32 = 36;
 
 /// The number of copies is out of its range.

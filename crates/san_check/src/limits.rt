@@ -2,15 +2,6 @@
 
 use san_base::MAX_HORIZON;
 
-/// The activities of the largest atomic.
-pub(crate) const MAX_OWN_ACTS: usize = 256;
-
-/// The rewards of a text.
-pub(crate) const MAX_REWARDS: usize = 64;
-
-/// The terms of a reward.
-pub(crate) const MAX_TERMS: usize = 16;
-
 /// The entries of a table of delays.
 pub(crate) const MAX_ENTRIES: usize = 64;
 
@@ -22,9 +13,6 @@ pub(crate) const MAX_GEOMETRIC: u64 = 1000;
 
 /// The greatest number of a word, a place, a cell or a copy; no text that is read comes near.
 pub(crate) const MAX_COUNT: u32 = 4_294_967_295;
-
-/// The greatest priority.
-pub(crate) const MAX_PRIORITY: u64 = 1000;
 
 /// The tick at which the longest interval of a reward ends, which it doesn't have.
 pub(crate) const MAX_END: u64 = MAX_HORIZON + 1;

@@ -7,7 +7,7 @@ use Rattle.san_expr.specs.Delay.{delay_of}
 use Rattle.san_expr.specs.Meaning.{Meaning}
 use Rattle.san_expr.specs.Meets.{Evaluates, Meets}
 use Rattle.san_expr.specs.Value.{value_of}
-use Rattle.san_expr.specs.View.{Sight, plain}
+use Rattle.san_expr.specs.View.{ViewState, plain}
 use Rattle.san_expr.specs.declared.dist.Dist.{Dist}
 use Rattle.san_expr.specs.declared.expr.Expr.{Expr}
 use Rattle.san_expr.proofs.WholeLemmas.{delay_reads, plain_meets, value_reads}
@@ -16,10 +16,10 @@ use Rattle.san_net.specs.Leaf.{answer_by, enabled_in, holds_in}
 use Rattle.san_net.specs.declared.activity.Activity.{Activity}
 use Rattle.san_net.proofs.ConcernLemmas.{enabling_reads}
 
-module _ (s t : Sight) (values left : List ℕ) (was : s ≡ plain values) (now : t ≡ plain left) where
+module _ (s t : ViewState) (values left : List ℕ) (was : s ≡ plain values) (now : t ≡ plain left) where
   asked : {T : Type 0} (a : Meaning T) (r : Result T Trap) → AssignsNothing a → Evaluates s t a r → ((a values).answer ≡ r) × (left ≡ values)
   asked a r nothing did =
-      let met = plain_meets values left a r (subst (λ (x : Sight). Meets (plain values) x a r) now (subst (λ (x : Sight). Meets x t a r) was did.meets)) in
+      let met = plain_meets values left a r (subst (λ (x : ViewState). Meets (plain values) x a r) now (subst (λ (x : ViewState). Meets x t a r) was did.meets)) in
       (met.0, met.1 ∙ (nothing values).0)
 
   pub enabled_is : (a : Activity) (r : Result Bool Trap) → Evaluates s t (enabled_of a) r → (answer_by r ≡ enabled_in a values) × (left ≡ values)

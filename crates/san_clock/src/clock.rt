@@ -1,8 +1,9 @@
 //! The renewal of one activity's timer.
 
-ghost use Rattle.std.specs.Prelude.{◌≡◌, ◌≤◌, ◌<◌, ◌^◌, ℕ, List, length, not, ◌+◌, IfOk, IsTrue, Ok, Err, Some, Result};
+ghost use Rattle.std.specs.Prelude.{◌≡◌, ◌≤◌, ◌<◌, ℕ, List, length, not, ◌+◌, IfOk, IsTrue, Ok, Err, Some, Result};
 ghost use Rattle.std.specs.Option.{option_map};
 ghost use Rattle.san_base.specs.declared.ending.Trap.{Trap};
+ghost use Rattle.san_base.specs.declared.limits.TheConstants.{MAX_DRAWS, MAX_TIME};
 ghost use Rattle.san_clock.specs.Rows.{timer_in};
 ghost use Rattle.san_clock.specs.inner.Clocks.{anew_by, clock_by, enabled_by, pair_below, renewed_in, timed_at};
 ghost use Rattle.san_delay.specs.Sound.{IsSound};
@@ -51,8 +52,8 @@ fn activate<V: PlainView, D: DrawSource>(
     requires delay { IsTrue (dist_below delay.now (length (V.values view.old))) }
     requires pair { IsTrue (pair_below pair.now (length (V.values view.old))) }
     requires stream { stream < D.streams draws.old }
-    requires number { n < 2 ^ 40 }
-    requires time { renewal.now.time < 2 ^ 62 }
+    requires number { n < MAX_DRAWS }
+    requires time { renewal.now.time < MAX_TIME }
     ensures clock { clock_by result
         ≡ activated (draw_of (D.seed draws.old) stream) renewal.now.time (V.values view.old) (λ u
         v. (delay_of delay.now u v).answer) (pair_in pair.now) n }
@@ -106,8 +107,8 @@ fn keep_or_activate<V: PlainView, D: DrawSource>(
     requires delay { IsTrue (dist_below delay.now (length (V.values view.old))) }
     requires pair { IsTrue (pair_below pair.now (length (V.values view.old))) }
     requires stream { stream < D.streams draws.old }
-    requires number { clock.1 < 2 ^ 40 }
-    requires time { renewal.now.time < 2 ^ 62 }
+    requires number { clock.1 < MAX_DRAWS }
+    requires time { renewal.now.time < MAX_TIME }
     ensures clock { (seen : List ℕ) → renewal.now.changed
         ≡ not (same_list seen (V.values view.old)) → clock_by result
         ≡ enabled_by seen (V.values view.old) (option_map timer_in clock.0) clock.1 (pair_in
@@ -141,8 +142,8 @@ pub(crate) fn renew_act<V: PlainView, D: DrawSource>(
     requires accepted { IsAcceptedKind activity.now.kind }
     requires places { IsTrue (activity_below activity.now (length (V.values view.old))) }
     requires stream { stream < D.streams draws.old }
-    requires number { clock.1 < 2 ^ 40 }
-    requires time { renewal.now.time < 2 ^ 62 }
+    requires number { clock.1 < MAX_DRAWS }
+    requires time { renewal.now.time < MAX_TIME }
     ensures clock { (seen : List ℕ) → renewal.now.changed
         ≡ not (same_list seen (V.values view.old)) → clock_by result
         ≡ renewed_in (draw_of (D.seed draws.old) stream) renewal.now.time seen (V.values view.old)

@@ -1,6 +1,7 @@
 //! The completion of a leaf's activity with its next case draw.
 
-ghost use Rattle.std.specs.Prelude.{◌≡◌, ◌≤◌, ◌<◌, ◌+◌, ◌*◌, ◌^◌, Some, length, slice_get, slice_index};
+ghost use Rattle.std.specs.Prelude.{◌≡◌, ◌≤◌, ◌<◌, ◌+◌, ◌*◌, Some, length, slice_get, slice_index};
+ghost use Rattle.san_base.specs.declared.limits.TheConstants.{MAX_DRAWS};
 ghost use Rattle.san_clock.specs.Rows.{counted_by};
 ghost use Rattle.san_draw.specs.Key.{draw_of};
 ghost use Rattle.san_expr.specs.Meets.{Meets};
@@ -24,14 +25,14 @@ pub fn complete_act<V: Cells, D: DrawSource>(
     view: &mut V,
 ) -> Result<u32, Trap>
     requires accepted { IsAccepted part.now.atomic }
-    requires cells { (V.sight view.old).places ≡ length part.now.atomic.initial }
+    requires cells { (V.view_state view.old).places ≡ length part.now.atomic.initial }
     requires act { act < length part.now.atomic.acts }
     requires cases { length row.old.cases ≡ length part.now.atomic.acts }
     requires streams { 2 * (part.now.first.0 + length part.now.atomic.acts) ≤ D.streams draws.old }
     requires small { part.now.first.0 + length part.now.atomic.acts ≤ MAX_ACTS }
-    requires number { slice_index row.old.cases act + 1 < 2 ^ 40 }
-    ensures done { (a : Named) → slice_get part.now.atomic.acts act ≡ Some a → Meets (V.sight
-        view.old) (V.sight view.new) (completion_of (draw_of (D.seed draws.old) (2
+    requires number { slice_index row.old.cases act + 1 < MAX_DRAWS }
+    ensures done { (a : Named) → slice_get part.now.atomic.acts act ≡ Some a → Meets (V.view_state
+        view.old) (V.view_state view.new) (completion_of (draw_of (D.seed draws.old) (2
         * (part.now.first.0 + act) + 1) (slice_index row.old.cases act)) a.1) result }
     ensures row { row.new ≡ counted_by result row.old act }
     ensures draws { draws.new ≡ draws.old }

@@ -1,7 +1,8 @@
 //! The renewal of a leaf's timers.
 
-ghost use Rattle.std.specs.Prelude.{◌≡◌, ◌≤◌, ◌<◌, ◌+◌, ◌*◌, ◌^◌, ℕ, List, length, map, not, All};
+ghost use Rattle.std.specs.Prelude.{◌≡◌, ◌≤◌, ◌<◌, ◌+◌, ◌*◌, ℕ, List, length, map, not, All};
 ghost use Rattle.std.specs.Option.{option_map};
+ghost use Rattle.san_base.specs.declared.limits.TheConstants.{MAX_DRAWS, MAX_TIME};
 ghost use Rattle.san_clock.specs.Rows.{renewing_by, timer_in};
 ghost use Rattle.san_clock.specs.inner.Renewals.{ArePlaced, clocks_by, renewed_named};
 ghost use Rattle.san_draw.specs.Key.{draw_of};
@@ -26,7 +27,7 @@ pub struct Renewal<'a> {
     pub changed: bool,
 }
 
-/// The clocks of a leaf's activities in order, up to the first trap, which is told with the
+/// The clocks of a leaf's activities in order, up to the first trap, which is answered with the
 /// activity's number.
 fn renew_acts<V: PlainView, D: DrawSource>(
     renewal: &Renewal<'_>,
@@ -42,8 +43,8 @@ fn renew_acts<V: PlainView, D: DrawSource>(
     requires delays { length delays.old ≡ length acts.now }
     requires streams { 2 * (first + length acts.now) ≤ D.streams draws.old }
     requires small { first + length acts.now ≤ MAX_ACTS }
-    requires numbers { All (λ n. n + 1 < 2 ^ 40) delays.old }
-    requires time { renewal.now.time < 2 ^ 62 }
+    requires numbers { All (λ n. n + 1 < MAX_DRAWS) delays.old }
+    requires time { renewal.now.time < MAX_TIME }
     ensures clocks { (seen : List ℕ) → renewal.now.changed
         ≡ not (same_list seen (V.values view.old))
         → clocks_by result (map (option_map timer_in) timers.new) delays.new
@@ -69,7 +70,7 @@ fn renew_acts<V: PlainView, D: DrawSource>(
     Ok(())
 }
 
-/// Renews the timers of a leaf over its values; a trap is told with its activity. Where `changed`
+/// Renews the timers of a leaf over its values; a trap is answered with its activity. Where `changed`
 /// tells whether the values differ from those that were last seen, this is the leaf's renewal of
 /// the definitions.
 pub fn renew<V: PlainView, D: DrawSource>(
@@ -85,8 +86,8 @@ pub fn renew<V: PlainView, D: DrawSource>(
     requires delays { length row.old.delays ≡ length part.now.atomic.acts }
     requires streams { 2 * (part.now.first.0 + length part.now.atomic.acts) ≤ D.streams draws.old }
     requires small { part.now.first.0 + length part.now.atomic.acts ≤ MAX_ACTS }
-    requires numbers { All (λ n. n + 1 < 2 ^ 40) row.old.delays }
-    requires time { renewal.now.time < 2 ^ 62 }
+    requires numbers { All (λ n. n + 1 < MAX_DRAWS) row.old.delays }
+    requires time { renewal.now.time < MAX_TIME }
     ensures row { (seen : List ℕ) → renewal.now.changed
         ≡ not (same_list seen (V.values view.old)) → renewing_by result row.new
         ≡ renewed_row (draw_of (D.seed draws.old)) (leaf_of part.now) renewal.now.time seen (record

@@ -1,7 +1,8 @@
 //! A leaf's timers, and the numbers of the draws that it took.
 
-ghost use Rattle.std.specs.Prelude.{◌≡◌, ◌<◌, ◌+◌, ◌^◌, IfOk, None, length, map, slice_index};
+ghost use Rattle.std.specs.Prelude.{◌≡◌, ◌<◌, ◌+◌, IfOk, None, length, map, slice_index};
 ghost use Rattle.std.specs.Option.{option_map};
+ghost use Rattle.san_base.specs.declared.limits.TheConstants.{MAX_DRAWS};
 ghost use Rattle.san_clock.specs.Rows.{timer_in};
 ghost use Rattle.san_law.specs.Activity.{with_case};
 ghost use Rattle.san_law.specs.Net.{without_timer};
@@ -103,7 +104,7 @@ impl Row {
     /// Counts a case draw that was taken.
     pub(crate) fn count_case(&mut self, act: u32)
         requires act { act < length self.old.cases }
-        requires number { slice_index self.old.cases act + 1 < 2 ^ 40 }
+        requires number { slice_index self.old.cases act + 1 < MAX_DRAWS }
         ensures { self.new ≡ with_case self.old act }
     {
         self.cases[act as usize] += 1;

@@ -10,7 +10,7 @@ use san_net::LeafCells;
 pub trait PlainView: Marked {
     ghost values: { Self → List ℕ };
 
-    ghost shows: { (v : Self) → Self.sight v ≡ plain (values v) };
+    ghost shows: { (v : Self) → Self.view_state v ≡ plain (values v) };
 }
 
 impl<'a> PlainView for LeafCells<'a> {

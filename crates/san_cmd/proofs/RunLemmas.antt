@@ -60,7 +60,7 @@ module _ (app : App) (Say : Texts → Orders → Type 0) (words : List Text) whe
     taken = λ no. inr a.0;
   }
 
-  -- where it is told what is left of the source
+  -- where it is known what is left of the source
   by_orders : (o : Orders) (s : Status) (bytes : List ℕ) → Say (texts_of app words) o → IsHindered s ⊎ (s ≡ settled o bytes) → IsHindered s ⊎ ((p : Orders) × Say (texts_of app words) p × (s ≡ settled p bytes))
   by_orders o s bytes said (inl h) = inl h
   by_orders o s bytes said (inr h) = inr (o, said, h)

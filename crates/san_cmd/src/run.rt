@@ -1,7 +1,7 @@
 //! A model text is run as words order it: the task, and the top calls of the programs that do it.
 
 ghost use Rattle.std.specs.Prelude.{◌≡◌, ◌⊎◌, List, ℕ, Some, map, string_bytes};
-ghost use Rattle.san_base.specs.Flow.{Rose};
+ghost use Rattle.san_base.specs.Flow.{CountRose};
 ghost use Rattle.san_base.specs.Limits.{IsInRange};
 ghost use Rattle.san_serve.specs.Accepted.{IsRefusedText};
 ghost use Rattle.san_serve.specs.Answers.{IsRefused};
@@ -25,7 +25,7 @@ use std::alloc::Global;
 fn run_network<K: Sink>(alloc: Global, flat: &Flat, orders: Orders, sink: &mut K) -> Served
     requires { IsInRange orders.limits }
     ensures answer { Ran (run_by flat.now orders) result (K.held sink.old) (K.held sink.new) }
-    ensures cause { result ≡ Served.WriteFault → Rose (K.faults sink.old) (K.faults sink.new) }
+    ensures cause { result ≡ Served.WriteFault → CountRose (K.faults sink.old) (K.faults sink.new) }
 {
     let Ok(run) = Run::open(alloc, flat, orders.seed, orders.limits) else {
         return Served::NoMemory;
@@ -77,8 +77,8 @@ fn run_heard<S: Source, K: Sink, N: Sink>(
     ensures noted { (line : List ℕ) × IsLine result (IsRefused model_bound IsRefusedText
         (S.left source.old) (S.left source.new)) line × Noted (N.held notes.old) (N.held notes.new)
         (N.faults notes.old) (N.faults notes.new) line }
-    ensures read { result ≡ Status.ReadFault → Rose (S.faults source.old) (S.faults source.new) }
-    ensures write { result ≡ Status.WriteFault → Rose (K.faults sink.old) (K.faults sink.new) }
+    ensures read { result ≡ Status.ReadFault → CountRose (S.faults source.old) (S.faults source.new) }
+    ensures write { result ≡ Status.WriteFault → CountRose (K.faults sink.old) (K.faults sink.new) }
 {
     match heard {
         Heard::Run(orders) => serve_noted(alloc, &RunModel { orders }, source, sink, notes),
@@ -108,8 +108,8 @@ pub fn plain_words<S: Source, K: Sink, N: Sink>(
         → IsTaken plain_app (map string_bytes words.now) → IsHindered result ⊎ ((orders : Orders)
         × PlainSay (texts_of plain_app (map string_bytes words.now)) orders
         × (result ≡ settled orders bytes)) }
-    ensures read { result ≡ Status.ReadFault → Rose (S.faults source.old) (S.faults source.new) }
-    ensures write { result ≡ Status.WriteFault → Rose (K.faults sink.old) (K.faults sink.new) }
+    ensures read { result ≡ Status.ReadFault → CountRose (S.faults source.old) (S.faults source.new) }
+    ensures write { result ≡ Status.WriteFault → CountRose (K.faults sink.old) (K.faults sink.new) }
     ensures noted { (line : List ℕ) × IsLine result (IsRefused model_bound IsRefusedText
         (S.left source.old) (S.left source.new)) line × Noted (N.held notes.old) (N.held notes.new)
         (N.faults notes.old) (N.faults notes.new) line }
@@ -139,8 +139,8 @@ pub fn run_words<S: Source, K: Sink, N: Sink>(
         → IsTaken run_app (map string_bytes words.now) → IsHindered result ⊎ ((orders : Orders)
         × OrdersSay (texts_of run_app (map string_bytes words.now)) orders
         × (result ≡ settled orders bytes)) }
-    ensures read { result ≡ Status.ReadFault → Rose (S.faults source.old) (S.faults source.new) }
-    ensures write { result ≡ Status.WriteFault → Rose (K.faults sink.old) (K.faults sink.new) }
+    ensures read { result ≡ Status.ReadFault → CountRose (S.faults source.old) (S.faults source.new) }
+    ensures write { result ≡ Status.WriteFault → CountRose (K.faults sink.old) (K.faults sink.new) }
     ensures noted { (line : List ℕ) × IsLine result (IsRefused model_bound IsRefusedText
         (S.left source.old) (S.left source.new)) line × Noted (N.held notes.old) (N.held notes.new)
         (N.faults notes.old) (N.faults notes.new) line }

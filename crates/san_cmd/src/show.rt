@@ -1,7 +1,7 @@
 //! A model text is shown in its canonical form: the task, and the top call of the program that does it.
 
 ghost use Rattle.std.specs.Prelude.{◌≡◌, ◌<◌, ◌↔◌, ◌⊎◌, List, ℕ, Some, length};
-ghost use Rattle.san_base.specs.Flow.{Rose};
+ghost use Rattle.san_base.specs.Flow.{CountRose};
 ghost use Rattle.san_serve.specs.Accepted.{IsRefusedText};
 ghost use Rattle.san_serve.specs.Answers.{Answers, IsRefused};
 ghost use Rattle.san_serve.specs.Bounds.{model_bound};
@@ -20,7 +20,7 @@ use std::alloc::Global;
 /// Puts the canonical text of a syntax.
 fn put_canon<K: Sink>(alloc: Global, syntax: &Syntax, sink: &mut K) -> Served
     ensures answer { PutsCanon syntax.now result (K.held sink.old) (K.held sink.new) }
-    ensures cause { result ≡ Served.WriteFault → Rose (K.faults sink.old) (K.faults sink.new) }
+    ensures cause { result ≡ Served.WriteFault → CountRose (K.faults sink.old) (K.faults sink.new) }
 {
     let Ok(canon) = show(alloc, syntax) else {
         return Served::NoMemory;
@@ -70,8 +70,8 @@ pub fn show_words<S: Source, K: Sink, N: Sink>(
         (K.held sink.new) }
     ensures complete { (bytes : List ℕ) → S.left source.old ≡ Some bytes → length words.now ≡ 0
         → IsHindered result ⊎ (result ≡ shown_status bytes) }
-    ensures read { result ≡ Status.ReadFault → Rose (S.faults source.old) (S.faults source.new) }
-    ensures write { result ≡ Status.WriteFault → Rose (K.faults sink.old) (K.faults sink.new) }
+    ensures read { result ≡ Status.ReadFault → CountRose (S.faults source.old) (S.faults source.new) }
+    ensures write { result ≡ Status.WriteFault → CountRose (K.faults sink.old) (K.faults sink.new) }
     ensures noted { (line : List ℕ) × IsLine result (IsRefused model_bound IsRefusedText
         (S.left source.old) (S.left source.new)) line × Noted (N.held notes.old) (N.held notes.new)
         (N.faults notes.old) (N.faults notes.new) line }

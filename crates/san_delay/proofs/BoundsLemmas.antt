@@ -3,13 +3,13 @@ use Rattle.std.proofs.Common.{ℕ, ℤ, ◌≡◌, sym, subst, Result, Ok, Err}
 use Rattle.san_base.specs.declared.ending.Trap.{Trap}
 use Rattle.san_expr.specs.Meaning.{Meaning, settled, then_do}
 use Rattle.san_expr.specs.Meets.{Evaluates}
-use Rattle.san_expr.specs.View.{Sight}
+use Rattle.san_expr.specs.View.{ViewState}
 use Rattle.san_expr.proofs.ComposeLemmas.{evaluates_then, evaluates_stop, evaluates_settled}
 
-evaluates_as : {T : Type 0} (s0 s1 : Sight) (a : Meaning T) (r r' : Result T Trap) → r ≡ r' → Evaluates s0 s1 a r → Evaluates s0 s1 a r'
+evaluates_as : {T : Type 0} (s0 s1 : ViewState) (a : Meaning T) (r r' : Result T Trap) → r ≡ r' → Evaluates s0 s1 a r → Evaluates s0 s1 a r'
 evaluates_as s0 s1 a r r' is p = subst (λ (x : Result _ Trap). Evaluates s0 s1 a x) is p
 
-module _ (s0 s1 s2 : Sight) (a b : Meaning ℤ) (f : ℤ → ℤ → Result ℕ Trap) (x : ℤ) (first second : Result ℤ Trap) (is : first ≡ Ok x) (p : Evaluates s0 s1 a first)
+module _ (s0 s1 s2 : ViewState) (a b : Meaning ℤ) (f : ℤ → ℤ → Result ℕ Trap) (x : ℤ) (first second : Result ℤ Trap) (is : first ≡ Ok x) (p : Evaluates s0 s1 a first)
     (q : Evaluates s1 s2 b second) where
   pub both_answer : (y : ℤ) (r : Result ℕ Trap) → second ≡ Ok y → r ≡ f x y → Evaluates s0 s2 (then_do a (λ v. then_do b (λ w. settled (f v w)))) r
   both_answer y r at answer =

@@ -97,6 +97,6 @@ module _ (p q left stays parts : ℕ) (chances : List ℕ) (is : left ≡ chance
 
   pub turn : (more : List ℕ) → more ≡ chances ++ (left * stays / parts) ∷ [] → ((k : ℕ) → k < length chances → slice_index chances k ≡ chance_left p q (suc k))
       → (left * stays / parts ≡ chance_left p q (length more)) × (length more ≡ length chances + 1) × ((k : ℕ) → k < length more → slice_index more k ≡ chance_left p q (suc k))
-  turn more told each =
-      let sized : length more ≡ suc (length chances) = omega (arith, ap length told, length-append chances ((left * stays / parts) ∷ [])) in
-      (next_chance ∙ ap (chance_left p q) (sym sized), omega (arith, sized), each_more p q (left * stays / parts) chances more told next_chance each)
+  turn more grown each =
+      let sized : length more ≡ suc (length chances) = omega (arith, ap length grown, length-append chances ((left * stays / parts) ∷ [])) in
+      (next_chance ∙ ap (chance_left p q) (sym sized), omega (arith, sized), each_more p q (left * stays / parts) chances more grown next_chance each)

@@ -42,12 +42,12 @@ both_tests n true true f g = (f refl, g refl)
 both_tests n true false f g = tt
 both_tests n false c f g = tt
 
-told : (a b : ℕ) → ((nat_le a b ≡ true) × (a ≤ b)) ⊎ ((nat_le a b ≡ false) × (b < a)) → nat_le a b ≡ true → a ≤ b
-told a b (inl o) e = o.1
-told a b (inr o) e = absurd (let both : true ≡ false = sym e ∙ o.0 in cc)
+test_holds : (a b : ℕ) → ((nat_le a b ≡ true) × (a ≤ b)) ⊎ ((nat_le a b ≡ false) × (b < a)) → nat_le a b ≡ true → a ≤ b
+test_holds a b (inl o) e = o.1
+test_holds a b (inr o) e = absurd (let both : true ≡ false = sym e ∙ o.0 in cc)
 
 ticks_within : (x : ℤ) → IsWithin (ticks_of x)
-ticks_within (pos n) = both_tests n (nat_le 1 n) (nat_le n 4294967296) (told 1 n (leb_tells 1 n)) (told n 4294967296 (leb_tells n 4294967296))
+ticks_within (pos n) = both_tests n (nat_le 1 n) (nat_le n 4294967296) (test_holds 1 n (leb_tells 1 n)) (test_holds n 4294967296 (leb_tells n 4294967296))
 ticks_within (negsuc n) = tt
 
 pick_below : (u w : ℕ) → u < 2 ^ 64 → 0 < w → pick u w < w

@@ -12,12 +12,12 @@ use san_base::Trap;
 use san_expr::{Dist, Marked};
 
 /// The delay of a distribution, in ticks, for a draw. A geometric delay is the least number of
-/// ticks whose chance to go on, out of 2^64, is at most the draw. `Trap::Delay` is told after the
+/// ticks whose chance to go on, out of 2^64, is at most the draw. `Trap::Delay` is answered after the
 /// traps of the expressions (own rules).
 pub fn delay<V: Marked>(d: &Dist, u: u64, view: &mut V) -> Result<u64, Trap>
     requires sound { IsSound d.now }
-    requires places { IsTrue (dist_below d.now (V.sight view.old).places) }
-    ensures value { Evaluates (V.sight view.old) (V.sight view.new) (delay_of d.now u) result }
+    requires places { IsTrue (dist_below d.now (V.view_state view.old).places) }
+    ensures value { Evaluates (V.view_state view.old) (V.view_state view.new) (delay_of d.now u) result }
     ensures within { IfOk result IsDelay }
 {
     match d {
@@ -31,8 +31,8 @@ pub fn delay<V: Marked>(d: &Dist, u: u64, view: &mut V) -> Result<u64, Trap>
 /// The longest delay of a distribution over all draws, in ticks.
 pub fn longest<V: Marked>(d: &Dist, view: &mut V) -> Result<u64, Trap>
     requires sound { IsSound d.now }
-    requires places { IsTrue (dist_below d.now (V.sight view.old).places) }
-    ensures value { Evaluates (V.sight view.old) (V.sight view.new) (longest_of d.now) result }
+    requires places { IsTrue (dist_below d.now (V.view_state view.old).places) }
+    ensures value { Evaluates (V.view_state view.old) (V.view_state view.new) (longest_of d.now) result }
     ensures within { IfOk result IsDelay }
 {
     match d {

@@ -25,8 +25,8 @@ pub(crate) fn ticks_of(x: i64) -> Result<u64, Trap>
 
 /// The delay, whatever the draw; so it is the longest too.
 pub(crate) fn delay<V: Marked>(e: &Expr, view: &mut V) -> Result<u64, Trap>
-    requires { IsTrue (places_below e.now (V.sight view.old).places) }
-    ensures value { Evaluates (V.sight view.old) (V.sight view.new) (then_do (value_of e.now) (λ x. settled (ticks_of x))) result }
+    requires { IsTrue (places_below e.now (V.view_state view.old).places) }
+    ensures value { Evaluates (V.view_state view.old) (V.view_state view.new) (then_do (value_of e.now) (λ x. settled (ticks_of x))) result }
     ensures within { IfOk result IsDelay }
 {
     let x = eval(e, view)?;

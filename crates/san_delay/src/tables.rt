@@ -150,8 +150,8 @@ impl DelayTables {
     /// What the call `delay` answers, in ticks.
     pub fn delay<V: Marked>(&self, d: &Dist, u: u64, view: &mut V) -> Result<u64, Trap>
         requires sound { IsSound d.now }
-        requires places { IsTrue (dist_below d.now (V.sight view.old).places) }
-        ensures value { Evaluates (V.sight view.old) (V.sight view.new) (delay_of d.now u) result }
+        requires places { IsTrue (dist_below d.now (V.view_state view.old).places) }
+        ensures value { Evaluates (V.view_state view.old) (V.view_state view.new) (delay_of d.now u) result }
         ensures within { IfOk result IsDelay }
     {
         match d {

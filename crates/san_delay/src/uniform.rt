@@ -44,9 +44,9 @@ fn upper(low: i64, high: i64) -> Result<u64, Trap>
 
 /// The delay for a draw; the lower bound is evaluated first.
 pub(crate) fn delay<V: Marked>(low: &Expr, high: &Expr, u: u64, view: &mut V) -> Result<u64, Trap>
-    requires low { IsTrue (places_below low.now (V.sight view.old).places) }
-    requires high { IsTrue (places_below high.now (V.sight view.old).places) }
-    ensures value { Evaluates (V.sight view.old) (V.sight view.new) (then_do (value_of low.now) (λ x. then_do (value_of high.now) (λ y. settled (between u (ticks_of x) (ticks_of y))))) result }
+    requires low { IsTrue (places_below low.now (V.view_state view.old).places) }
+    requires high { IsTrue (places_below high.now (V.view_state view.old).places) }
+    ensures value { Evaluates (V.view_state view.old) (V.view_state view.new) (then_do (value_of low.now) (λ x. then_do (value_of high.now) (λ y. settled (between u (ticks_of x) (ticks_of y))))) result }
     ensures within { IfOk result IsDelay }
 {
     let x = eval(low, view)?;
@@ -56,9 +56,9 @@ pub(crate) fn delay<V: Marked>(low: &Expr, high: &Expr, u: u64, view: &mut V) ->
 
 /// The longest delay over all draws; the lower bound is evaluated first.
 pub(crate) fn longest<V: Marked>(low: &Expr, high: &Expr, view: &mut V) -> Result<u64, Trap>
-    requires low { IsTrue (places_below low.now (V.sight view.old).places) }
-    requires high { IsTrue (places_below high.now (V.sight view.old).places) }
-    ensures value { Evaluates (V.sight view.old) (V.sight view.new) (then_do (value_of low.now) (λ x. then_do (value_of high.now) (λ y. settled (upper (ticks_of x) (ticks_of y))))) result }
+    requires low { IsTrue (places_below low.now (V.view_state view.old).places) }
+    requires high { IsTrue (places_below high.now (V.view_state view.old).places) }
+    ensures value { Evaluates (V.view_state view.old) (V.view_state view.new) (then_do (value_of low.now) (λ x. then_do (value_of high.now) (λ y. settled (upper (ticks_of x) (ticks_of y))))) result }
     ensures within { IfOk result IsDelay }
 {
     let x = eval(low, view)?;

@@ -1,6 +1,7 @@
 //! The draws of a seed in any order, from one ChaCha20 generator.
 ghost use Rattle.std.specs.Prelude.{◌≡◌, ◌+◌, ◌*◌, ◌<◌, ◌^◌};
 ghost use Rattle.rand_chacha.specs.ChaCha.{key_of, word_at};
+ghost use Rattle.san_base.specs.declared.limits.TheConstants.{MAX_DRAWS};
 ghost use Rattle.san_draw.specs.Key.{draw_of, key_bytes};
 
 use rand_chacha::ChaCha20Rng;
@@ -19,7 +20,7 @@ pub(crate) fn generator(seed: u64) -> ChaCha20Rng
 
 /// Draw k of the generator's stream. Draws in order use the words of the blocks that are made.
 pub(crate) fn draw_from(rng: &mut ChaCha20Rng, k: u64) -> u64
-    requires { k < 2 ^ 40 }
+    requires { k < MAX_DRAWS }
     ensures value { result ≡ word_at 10 rng.old.key rng.old.stream (2 * k) + 2 ^ 32 * word_at 10 rng.old.key
         rng.old.stream (2 * k + 1) }
     ensures same { (rng.new.key ≡ rng.old.key) × (rng.new.stream ≡ rng.old.stream) }
@@ -66,7 +67,7 @@ impl Draws {
     /// Draw k of a stream. Draws of one stream in order are cheap; a change of the stream makes its
     /// blocks anew.
     pub fn draw(&mut self, stream: u64, k: u64) -> u64
-        requires { k < 2 ^ 40 }
+        requires { k < MAX_DRAWS }
         ensures value { result ≡ draw_of self.old stream k }
         ensures same { self.new ≡ self.old }
     {

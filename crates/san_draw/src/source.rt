@@ -1,5 +1,6 @@
 //! Where the delays and cases of a run draw from: one trait over `Draws` and `Streams`.
 ghost use Rattle.std.specs.Prelude.{◌≡◌, ◌<◌, ◌^◌, ℕ};
+ghost use Rattle.san_base.specs.declared.limits.TheConstants.{MAX_DRAWS};
 ghost use Rattle.san_draw.specs.Key.{draw_of};
 
 use crate::draws::Draws;
@@ -14,7 +15,7 @@ pub trait DrawSource {
     /// Draw k of a stream.
     fn draw(&mut self, stream: u32, k: u64) -> u64
         requires stream { stream < streams self.old }
-        requires number { k < 2 ^ 40 }
+        requires number { k < MAX_DRAWS }
         ensures value { result ≡ draw_of (seed self.old) stream k }
         ensures same { self.new ≡ self.old };
 }

@@ -1,5 +1,6 @@
 //! The draws of a seed with a generator for each stream, for draws in turn.
-ghost use Rattle.std.specs.Prelude.{◌≡◌, ◌<◌, ◌≤◌, ◌^◌, IfOk};
+ghost use Rattle.std.specs.Prelude.{◌≡◌, ◌<◌, ◌≤◌, IfOk};
+ghost use Rattle.san_base.specs.declared.limits.TheConstants.{MAX_DRAWS};
 ghost use Rattle.san_draw.specs.Key.{draw_of};
 
 use crate::draws::{draw_from, generator};
@@ -44,7 +45,7 @@ impl Streams {
     /// Draw k of a stream.
     pub fn draw(&mut self, stream: u32, k: u64) -> u64
         requires stream { stream < self.old.streams }
-        requires number { k < 2 ^ 40 }
+        requires number { k < MAX_DRAWS }
         ensures value { result ≡ draw_of self.old.seed stream k }
         ensures same { self.new ≡ self.old }
     {

@@ -1,26 +1,19 @@
 -- Calls over a view, one after another.
+use Rattle.san_base.proofs.Bools.{or_none, or_assoc, or_second}
 use Rattle.std.proofs.Common.{ℕ, ◌≡◌, ◌∙◌, ◌<◌, ap, sym, refl, subst, arith, List, Option, Some, None, Bool, true, false, not, nat_eq, cond, ◌||◌, ◌&&◌, ◌⊎◌, inl, inr, Result, Ok, Err, pos}
 use Rattle.std.specs.Prelude.{slice_index}
 use Rattle.std.proofs.lemmas.Bool.Decides.{eqb_tells}
 use Rattle.san_base.specs.declared.ending.Trap.{Trap}
-use Rattle.san_expr.specs.View.{Known, Sight, Agrees, IsAt, IsSeen, Reads, Answers, assigned, or_else, with, is_known}
+use Rattle.san_expr.specs.View.{Known, ViewState, Agrees, IsAt, IsSeen, Reads, Answers, assigned, or_else, with, is_known}
 use Rattle.san_expr.specs.Meaning.{Outcome, Meaning, settled, value_at, put_at, joined, go_on, then_do}
 use Rattle.san_expr.specs.Meets.{Meets, Evaluates, marking_of}
 use Rattle.san_expr.proofs.ViewLemmas.{agrees_before, slice_index-over, over-with, with_here, with_there}
 
-looks_both : (f o a s b : Bool) → ((f || (not o && a)) || (not (o || s) && b)) ≡ (f || (not o && (a || (not s && b))))
+pub looks_both : (f o a s b : Bool) → ((f || (not o && a)) || (not (o || s) && b)) ≡ (f || (not o && (a || (not s && b))))
 looks_both true o a s b = refl
 looks_both false true a s b = refl
 looks_both false false true s b = refl
 looks_both false false false s b = refl
-
-or_both : (a b c : Bool) → ((a || b) || c) ≡ (a || (b || c))
-or_both true b c = refl
-or_both false b c = refl
-
-pub or_none : (a b : Bool) → (a || b) ≡ false → (a ≡ false) × (b ≡ false)
-or_none true b e = cc
-or_none false b e = (refl, e)
 
 or_false : (a : Bool) → a ≡ (a || false)
 or_false true = refl
@@ -52,7 +45,7 @@ module _ {T U : Type 0} where
   stop_is a next was t is = ap (λ (r : Result T Trap). go_on r (a was) next) is
 
   -- a call that gives an answer, then the call that it goes on with
-  pub meets_then : (s0 s1 s2 : Sight) (a : Meaning T) (next : T → Meaning U) (x : T) (r : Result U Trap)
+  pub meets_then : (s0 s1 s2 : ViewState) (a : Meaning T) (next : T → Meaning U) (x : T) (r : Result U Trap)
       → Meets s0 s1 a (Ok x) → Meets s1 s2 (next x) r → Meets s0 s2 (then_do a next) r
   meets_then s0 s1 s2 a next x r p q =
       let before : (m : List ℕ) → Agrees s2 m → Agrees s1 m = λ m h. agrees_before s1 s2 m q.places q.grows h in
@@ -74,7 +67,7 @@ module _ {T U : Type 0} where
             let B = next x (marking_of s1 m) in
             q.sets m h n
             ∙ ap (λ (b : Bool). b || B.sets n) (p.sets m (before m h) n)
-            ∙ or_both (is_known (s0.own n)) (A.sets n) (B.sets n)
+            ∙ or_assoc (is_known (s0.own n)) (A.sets n) (B.sets n)
             ∙ sym (ap (λ (o : Outcome U). is_known (s0.own n) || o.sets n) (is m h));
         unset = λ m h n e.
             let A = a (marking_of s0 m) in
@@ -90,7 +83,7 @@ module _ {T U : Type 0} where
       }
 
   -- a call that traps: nothing comes after it
-  pub meets_stop : (s0 s1 : Sight) (a : Meaning T) (next : T → Meaning U) (t : Trap)
+  pub meets_stop : (s0 s1 : ViewState) (a : Meaning T) (next : T → Meaning U) (t : Trap)
       → Meets s0 s1 a (Err t) → Meets s0 s1 (then_do a next) (Err t)
   meets_stop s0 s1 a next t p =
       let is : (m : List ℕ) → Agrees s1 m → then_do a next (marking_of s0 m) ≡ go_on (Err t) (a (marking_of s0 m)) next =
@@ -108,16 +101,16 @@ module _ {T U : Type 0} where
         kept = p.kept;
       }
 
-  pub evaluates_then : (s0 s1 s2 : Sight) (a : Meaning T) (next : T → Meaning U) (x : T) (r : Result U Trap)
+  pub evaluates_then : (s0 s1 s2 : ViewState) (a : Meaning T) (next : T → Meaning U) (x : T) (r : Result U Trap)
       → Evaluates s0 s1 a (Ok x) → Evaluates s1 s2 (next x) r → Evaluates s0 s2 (then_do a next) r
   evaluates_then s0 s1 s2 a next x r p q = record { meets = meets_then s0 s1 s2 a next x r p.meets q.meets; own = q.own ∙ p.own }
 
-  pub evaluates_stop : (s0 s1 : Sight) (a : Meaning T) (next : T → Meaning U) (t : Trap)
+  pub evaluates_stop : (s0 s1 : ViewState) (a : Meaning T) (next : T → Meaning U) (t : Trap)
       → Evaluates s0 s1 a (Err t) → Evaluates s0 s1 (then_do a next) (Err t)
   evaluates_stop s0 s1 a next t p = record { meets = meets_stop s0 s1 a next t p.meets; own = p.own }
 
 -- no call at all
-pub evaluates_settled : {T : Type 0} (s : Sight) (r : Result T Trap) → Evaluates s s (settled r) r
+pub evaluates_settled : {T : Type 0} (s : ViewState) (r : Result T Trap) → Evaluates s s (settled r) r
 evaluates_settled s r = record {
   meets = record {
     answer = λ m h. refl;
@@ -172,17 +165,17 @@ new_looks own first p v q none = by_test (eqb_tells q p)
         ∙ or_and_false (is_known (first q)) (not (is_known (own q)))
         ∙ ap (λ (b : Bool). is_known (first q) || (not (is_known (own q)) && b)) (sym t.0)
 
-value_own : (s : Sight) (m : List ℕ) (p w : ℕ) → p < s.places → Agrees s m → s.own p ≡ Some w → slice_index (marking_of s m) p ≡ w
+value_own : (s : ViewState) (m : List ℕ) (p w : ℕ) → p < s.places → Agrees s m → s.own p ≡ Some w → slice_index (marking_of s m) p ≡ w
 value_own s m p w within a is =
     slice_index-over s.own m p (omega (arith, a.sized)) ∙ ap (λ (o : Option ℕ). or_else o (slice_index m p)) is
 
-value_first : (s : Sight) (m : List ℕ) (p w : ℕ) → p < s.places → Agrees s m → s.own p ≡ None → s.first p ≡ Some w → slice_index (marking_of s m) p ≡ w
+value_first : (s : ViewState) (m : List ℕ) (p w : ℕ) → p < s.places → Agrees s m → s.own p ≡ None → s.first p ≡ Some w → slice_index (marking_of s m) p ≡ w
 value_first s m p w within a none is =
     let at : IsAt (Some w) (slice_index m p) = subst (λ (o : Option ℕ). IsAt o (slice_index m p)) is (a.has p) in
     slice_index-over s.own m p (omega (arith, a.sized)) ∙ ap (λ (o : Option ℕ). or_else o (slice_index m p)) none ∙ sym at
 
 -- a read of a cell that is known
-reads_known : (s : Sight) (p v w : ℕ) → v ≡ w → (is_known (s.first p) || is_known (s.own p)) ≡ true
+reads_known : (s : ViewState) (p v w : ℕ) → v ≡ w → (is_known (s.first p) || is_known (s.own p)) ≡ true
     → ((m : List ℕ) → Agrees s m → slice_index (marking_of s m) p ≡ w) → Evaluates s s (value_at p) (Ok (pos v))
 reads_known s p v w e known at = record {
   meets = record {
@@ -201,10 +194,10 @@ reads_known s p v w e known at = record {
 }
 
 -- a read of a cell that wasn't known
-reads_new : (s : Sight) (p v : ℕ) → p < s.places → s.own p ≡ None → s.first p ≡ None → IsSeen s.behind p v
+reads_new : (s : ViewState) (p v : ℕ) → p < s.places → s.own p ≡ None → s.first p ≡ None → IsSeen s.behind p v
     → Evaluates s (record s { first = with s.first p v }) (value_at p) (Ok (pos v))
 reads_new s p v within none unread seen =
-    let new : Sight = record s { first = with s.first p v } in
+    let new : ViewState = record s { first = with s.first p v } in
     record {
       meets = record {
         answer = λ m h. ap (λ (n : ℕ). Ok (pos n)) (value_first new m p v within h none (with_here s.first p v));
@@ -234,30 +227,26 @@ reads_new s p v within none unread seen =
         let e : with s.first p v q ≡ s.first q = with_there s.first p v q t.0 in
         cc
 
-right : (a b : Bool) → b ≡ true → (a || b) ≡ true
-right true b e = refl
-right false b e = e
-
 left : (a b : Bool) → a ≡ true → (a || b) ≡ true
 left a b e = ap (λ (x : Bool). x || b) e
 
 -- a read is the evaluation of one cell
-pub evaluates_read : (old new : Sight) (p v : ℕ) → p < old.places → Reads old new p v → Evaluates old new (value_at p) (Ok (pos v))
+pub evaluates_read : (old new : ViewState) (p v : ℕ) → p < old.places → Reads old new p v → Evaluates old new (value_at p) (Ok (pos v))
 evaluates_read old new p v within r = by_cases (old.own p) refl (old.first p) refl r
   where
     by_cases : (o : Option ℕ) → old.own p ≡ o → (f : Option ℕ) → old.first p ≡ f → Answers o f old new p v → Evaluates old new (value_at p) (Ok (pos v))
     by_cases (Some w) is f first a =
-        subst (λ (s : Sight). Evaluates old s (value_at p) (Ok (pos v))) (sym a.1)
-        (reads_known old p v w a.0 (right (is_known (old.first p)) (is_known (old.own p)) (ap is_known is)) (λ m h. value_own old m p w within h is))
+        subst (λ (s : ViewState). Evaluates old s (value_at p) (Ok (pos v))) (sym a.1)
+        (reads_known old p v w a.0 (or_second (is_known (old.first p)) (is_known (old.own p)) (ap is_known is)) (λ m h. value_own old m p w within h is))
     by_cases None is (Some w) first a =
-        subst (λ (s : Sight). Evaluates old s (value_at p) (Ok (pos v))) (sym a.1)
+        subst (λ (s : ViewState). Evaluates old s (value_at p) (Ok (pos v))) (sym a.1)
         (reads_known old p v w a.0 (left (is_known (old.first p)) (is_known (old.own p)) (ap is_known first)) (λ m h. value_first old m p w within h is first))
     by_cases None is None first a =
-        subst (λ (s : Sight). Evaluates old s (value_at p) (Ok (pos v))) (sym a.1) (reads_new old p v within is first a.0)
+        subst (λ (s : ViewState). Evaluates old s (value_at p) (Ok (pos v))) (sym a.1) (reads_new old p v within is first a.0)
 
 -- an assignment of one cell
-pub meets_put : (old new : Sight) (p v : ℕ) → new ≡ assigned old p v → Meets old new (put_at p v) (Ok tt)
-meets_put old new p v is = subst (λ (s : Sight). Meets old s (put_at p v) (Ok tt)) (sym is)
+pub meets_put : (old new : ViewState) (p v : ℕ) → new ≡ assigned old p v → Meets old new (put_at p v) (Ok tt)
+meets_put old new p v is = subst (λ (s : ViewState). Meets old s (put_at p v) (Ok tt)) (sym is)
     (record {
       answer = λ m h. refl;
       left = λ m h. over-with old.own m p v;
@@ -282,12 +271,12 @@ meets_put old new p v is = subst (λ (s : Sight). Meets old s (put_at p v) (Ok t
         ap (λ (b : Bool). is_known (cond b (Some v) (old.own q))) t.0 ∙ or_false (is_known (old.own q)) ∙ ap (λ (b : Bool). is_known (old.own q) || b) (sym t.0)
 
 -- an answer that is settled, and the call that it calls for
-pub meets_settled_then : {T U : Type 0} (s0 s1 : Sight) (o : Result T Trap) (next : T → Meaning U) (x : T) (r : Result U Trap)
+pub meets_settled_then : {T U : Type 0} (s0 s1 : ViewState) (o : Result T Trap) (next : T → Meaning U) (x : T) (r : Result U Trap)
     → o ≡ Ok x → Meets s0 s1 (next x) r → Meets s0 s1 (then_do (settled o) next) r
 meets_settled_then s0 s1 o next x r is p =
     subst (λ (a : Result _ Trap). Meets s0 s1 (then_do (settled a) next) r) (sym is)
     (meets_then s0 s0 s1 (settled (Ok x)) next x r (evaluates_settled s0 (Ok x)).meets p)
 
-pub evaluates_settled_then : {T U : Type 0} (s0 s1 : Sight) (o : Result T Trap) (next : T → Meaning U) (x : T) (r : Result U Trap)
+pub evaluates_settled_then : {T U : Type 0} (s0 s1 : ViewState) (o : Result T Trap) (next : T → Meaning U) (x : T) (r : Result U Trap)
     → o ≡ Ok x → Evaluates s0 s1 (next x) r → Evaluates s0 s1 (then_do (settled o) next) r
 evaluates_settled_then s0 s1 o next x r is p = record { meets = meets_settled_then s0 s1 o next x r is p.meets; own = p.own }

@@ -1,4 +1,5 @@
 -- Which cells evaluations have to do with.
+use Rattle.san_base.proofs.Bools.{or_none, holds_left, holds_right}
 use Rattle.std.proofs.Common.{ℕ, zero, suc, ◌+◌, ◌≤◌, ◌<◌, ◌≡◌, ◌∙◌, ap, sym, refl, subst, arith, Bool, true, false, not, cond, ◌&&◌, ◌||◌, ◌⊎◌, inl, inr, IsTrue, nat_eq, nat_lt, nat_le, Result, Ok, Err, ℤ, pos, negsuc, List, [], ◌∷◌, map, length}
 use Rattle.std.specs.Prelude.{slice_index, slice_set}
 use Rattle.std.proofs.lemmas.Bool.{leb-true, ltb-true, lt-ltb, le-leb}
@@ -22,7 +23,6 @@ use Rattle.san_expr.specs.Meaning.{Meaning, settled, value_at, put_at, go_on, th
 use Rattle.san_expr.specs.Value.{value_step, value_of, rest_of, is_decided, truth, is_zero, applied, cell_of}
 use Rattle.san_expr.specs.Effect.{Acts, assign_at, in_turn, chosen, effect_step, effect_of, effects_of}
 use Rattle.san_expr.specs.Mentions.{CellSet, array_cells, mentions_step, mentions, any_of, stmt_mentions_step, stmt_mentions, stmts_mention, dist_mentions}
-use Rattle.san_expr.proofs.ComposeLemmas.{or_none}
 use Rattle.san_expr.specs.Concerns.{IsPartOf, AreEqualOn, AreAlike, IsMarking, Concerns}
 
 either : (P : Type 0) (l s k : Bool) → (IsTrue l → P) → (IsTrue k → P) → IsTrue (l || (not s && k)) → P
@@ -33,13 +33,6 @@ either P false false k f g h = g h
 one_of : (P : Type 0) (l k : Bool) → (IsTrue l → P) → (IsTrue k → P) → IsTrue (l || k) → P
 one_of P true k f g h = f refl
 one_of P false k f g h = g h
-
-or_left : (a b : Bool) → IsTrue a → IsTrue (a || b)
-or_left a b h = ap (λ (x : Bool). x || b) h
-
-or_right : (a b : Bool) → IsTrue b → IsTrue (a || b)
-or_right true b h = refl
-or_right false b h = h
 
 and_from : (a b : Bool) → IsTrue a → IsTrue b → IsTrue (a && b)
 and_from a b h k = ap (λ (x : Bool). x && b) h ∙ k
@@ -257,14 +250,14 @@ one_level (Expr-F.Number n) cells part = concerns_settled cells (Ok n)
 one_level (Expr-F.Place p) cells part = concerns_value_at cells p (part p (is_itself p))
 one_level (Expr-F.Cell first length index) cells part =
     concerns_then cells (value_of index.0) (λ x. then_do (settled (cell_of first length x)) value_at)
-    (index.1 cells (λ q h. part q (or_right (array_cells first length q) (mentions index.0 q) h)))
-    (λ x. concerns_element cells first length x value_at (λ q h. part q (or_left (array_cells first length q) (mentions index.0 q) h)) (concerns_value_at cells))
+    (index.1 cells (λ q h. part q (holds_right (array_cells first length q) (mentions index.0 q) h)))
+    (λ x. concerns_element cells first length x value_at (λ q h. part q (holds_left (array_cells first length q) (mentions index.0 q) h)) (concerns_value_at cells))
 one_level (Expr-F.Neg a) cells part = concerns_then cells (value_of a.0) _ (a.1 cells part) (λ x. concerns_settled cells _)
 one_level (Expr-F.Not a) cells part = concerns_then cells (value_of a.0) _ (a.1 cells part) (λ x. concerns_settled cells _)
 one_level (Expr-F.Binary op left right) cells part =
     concerns_then cells (value_of left.0) (rest_of op (value_of right.0))
-    (left.1 cells (λ q h. part q (or_left (mentions left.0 q) (mentions right.0 q) h)))
-    (λ x. concerns_rest cells op (value_of right.0) x (right.1 cells (λ q h. part q (or_right (mentions left.0 q) (mentions right.0 q) h))))
+    (left.1 cells (λ q h. part q (holds_left (mentions left.0 q) (mentions right.0 q) h)))
+    (λ x. concerns_rest cells op (value_of right.0) x (right.1 cells (λ q h. part q (holds_right (mentions left.0 q) (mentions right.0 q) h))))
 
 value_map : (y : Expr-F Held) → map-Expr Expr (Meaning ℤ) value_of (map-Expr Held Expr (λ h. h.0) y) ≡ map-Expr Held (Meaning ℤ) (λ h. value_of h.0) y
 value_map (Expr-F.Number n) = refl
@@ -306,21 +299,21 @@ concerns_list : (hs : List HeldStmt) (cells : CellSet) → IsPartOf (any_of (map
 concerns_list [] cells part = concerns_settled cells (Ok tt)
 concerns_list (h ∷ hs) cells part =
     concerns_then cells (effect_of h.0) (λ _. in_turn (map (λ k. effect_of k.0) hs))
-    (h.1 cells (λ q t. part q (or_left (stmt_mentions h.0 q) (any_of (map (λ k. stmt_mentions k.0) hs) q) t)))
-    (λ _. concerns_list hs cells (λ q t. part q (or_right (stmt_mentions h.0 q) (any_of (map (λ k. stmt_mentions k.0) hs) q) t)))
+    (h.1 cells (λ q t. part q (holds_left (stmt_mentions h.0 q) (any_of (map (λ k. stmt_mentions k.0) hs) q) t)))
+    (λ _. concerns_list hs cells (λ q t. part q (holds_right (stmt_mentions h.0 q) (any_of (map (λ k. stmt_mentions k.0) hs) q) t)))
 
 one_stmt : (y : Stmt-F HeldStmt) (cells : CellSet) → IsPartOf (stmt_mentions_step (map-Stmt HeldStmt CellSet (λ h. stmt_mentions h.0) y)) cells
     → Concerns cells (effect_step (map-Stmt HeldStmt Acts (λ h. effect_of h.0) y))
 one_stmt (Stmt-F.Set p e) cells part =
-    concerns_then cells (value_of e) (assign_at p) (concerned e cells (λ q h. part q (or_right (nat_eq q p) (mentions e q) h)))
-    (λ x. concerns_assign cells p x (part p (or_left (nat_eq p p) (mentions e p) (is_itself p))))
+    concerns_then cells (value_of e) (assign_at p) (concerned e cells (λ q h. part q (holds_right (nat_eq q p) (mentions e q) h)))
+    (λ x. concerns_assign cells p x (part p (holds_left (nat_eq p p) (mentions e p) (is_itself p))))
 one_stmt (Stmt-F.SetCell first length index e) cells part =
     concerns_then cells (value_of index) (λ x. then_do (settled (cell_of first length x)) (λ p. then_do (value_of e) (assign_at p)))
-    (concerned index cells (λ q h. part q (or_right (array_cells first length q) (mentions index q || mentions e q) (or_left (mentions index q) (mentions e q) h))))
+    (concerned index cells (λ q h. part q (holds_right (array_cells first length q) (mentions index q || mentions e q) (holds_left (mentions index q) (mentions e q) h))))
     (λ x. concerns_element cells first length x (λ p. then_do (value_of e) (assign_at p))
-    (λ q h. part q (or_left (array_cells first length q) (mentions index q || mentions e q) h))
+    (λ q h. part q (holds_left (array_cells first length q) (mentions index q || mentions e q) h))
     (λ p within. concerns_then cells (value_of e) (assign_at p)
-    (concerned e cells (λ q h. part q (or_right (array_cells first length q) (mentions index q || mentions e q) (or_right (mentions index q) (mentions e q) h))))
+    (concerned e cells (λ q h. part q (holds_right (array_cells first length q) (mentions index q || mentions e q) (holds_right (mentions index q) (mentions e q) h))))
     (λ y. concerns_assign cells p y within)))
 one_stmt (Stmt-F.If e xs ys) cells part =
     let thens = any_of (map (λ (h : HeldStmt). stmt_mentions h.0) xs) in
@@ -328,10 +321,10 @@ one_stmt (Stmt-F.If e xs ys) cells part =
     let acts = in_turn (map (λ (h : HeldStmt). effect_of h.0) xs) in
     let others = in_turn (map (λ (h : HeldStmt). effect_of h.0) ys) in
     concerns_then cells (value_of e) (chosen acts others)
-    (concerned e cells (λ q h. part q (or_left (mentions e q) (thens q || elses q) h)))
+    (concerned e cells (λ q h. part q (holds_left (mentions e q) (thens q || elses q) h)))
     (λ x. by_test acts others
-    (concerns_list xs cells (λ q h. part q (or_right (mentions e q) (thens q || elses q) (or_left (thens q) (elses q) h))))
-    (concerns_list ys cells (λ q h. part q (or_right (mentions e q) (thens q || elses q) (or_right (thens q) (elses q) h))))
+    (concerns_list xs cells (λ q h. part q (holds_right (mentions e q) (thens q || elses q) (holds_left (thens q) (elses q) h))))
+    (concerns_list ys cells (λ q h. part q (holds_right (mentions e q) (thens q || elses q) (holds_right (thens q) (elses q) h))))
     (is_zero x))
   where
     by_test : (acts others : Acts) → Concerns cells acts → Concerns cells others → (b : Bool) → Concerns cells (cond b others acts)
@@ -366,8 +359,8 @@ pub effects_concern : (body : List Stmt) (cells : CellSet) → IsPartOf (stmts_m
 effects_concern [] cells part = concerns_settled cells (Ok tt)
 effects_concern (s ∷ body) cells part =
     concerns_then cells (effect_of s) (λ _. effects_of body)
-    (stmt_concerned s cells (λ q t. part q (or_left (stmt_mentions s q) (stmts_mention body q) t)))
-    (λ _. effects_concern body cells (λ q t. part q (or_right (stmt_mentions s q) (stmts_mention body q) t)))
+    (stmt_concerned s cells (λ q t. part q (holds_left (stmt_mentions s q) (stmts_mention body q) t)))
+    (λ _. effects_concern body cells (λ q t. part q (holds_right (stmt_mentions s q) (stmts_mention body q) t)))
 
 pub statements_concern : (body : List Stmt) → Concerns (stmts_mention body) (effects_of body)
 statements_concern body = effects_concern body (stmts_mention body) (λ p h. h)
@@ -377,9 +370,9 @@ delay_concerns (Det e) u = concerns_then (mentions e) (value_of e) (λ x. settle
 delay_concerns (Uniform low high) u =
     let cells : CellSet = λ q. mentions low q || mentions high q in
     concerns_then cells (value_of low) (λ x. then_do (value_of high) (λ y. settled (between u (ticks_of x) (ticks_of y))))
-    (concerned low cells (λ q h. or_left (mentions low q) (mentions high q) h))
+    (concerned low cells (λ q h. holds_left (mentions low q) (mentions high q) h))
     (λ x. concerns_then cells (value_of high) (λ y. settled (between u (ticks_of x) (ticks_of y)))
-    (concerned high cells (λ q h. or_right (mentions low q) (mentions high q) h))
+    (concerned high cells (λ q h. holds_right (mentions low q) (mentions high q) h))
     (λ y. concerns_settled cells (between u (ticks_of x) (ticks_of y))))
 delay_concerns (Geom p q) u = concerns_settled (dist_mentions (Geom p q)) (Ok (geometric p q u))
 delay_concerns (Table entries) u = concerns_settled (dist_mentions (Table entries)) _

@@ -2,7 +2,7 @@
 use Rattle.std.proofs.Common.{ℕ, zero, suc, ◌≡◌, ◌∙◌, ◌<◌, ap, sym, refl, subst, arith, List, [], ◌∷◌, length, Option, Some, None, Bool, true, false, nat_eq, cond, ◌⊎◌, inl, inr}
 use Rattle.std.specs.Prelude.{slice_index, slice_set}
 use Rattle.std.proofs.lemmas.Bool.Decides.{eqb_tells}
-use Rattle.san_expr.specs.View.{Known, Sight, Agrees, Grows, IsAt, over, or_else, with, is_known}
+use Rattle.san_expr.specs.View.{Known, ViewState, Agrees, Grows, IsAt, over, or_else, with, is_known}
 
 pub length-over : (own : Known) (m : List ℕ) → length (over own m) ≡ length m
 length-over own [] = refl
@@ -64,7 +64,7 @@ is_at_before None new x g a = tt
 is_at_before (Some v) new x g a = subst (λ (k : Option ℕ). IsAt k x) (g v refl) a
 
 -- what agrees afterwards agreed before
-pub agrees_before : (old new : Sight) (m : List ℕ) → new.places ≡ old.places → Grows old.first new.first → Agrees new m → Agrees old m
+pub agrees_before : (old new : ViewState) (m : List ℕ) → new.places ≡ old.places → Grows old.first new.first → Agrees new m → Agrees old m
 agrees_before old new m same grows a = record {
   sized = a.sized ∙ same;
   has = λ p. is_at_before (old.first p) (new.first p) (slice_index m p) (grows p) (a.has p);

@@ -2,16 +2,16 @@
 use Rattle.std.specs.Prelude.{ℕ, ◌≡◌, false, not, ◌||◌, ◌&&◌, Some, None, List, Result}
 use Rattle.san_base.specs.declared.ending.Trap.{Trap}
 use Rattle.san_expr.specs.Meaning.{Meaning}
-use Rattle.san_expr.specs.View.{Sight, Agrees, Grows, IsSeen, is_known, over}
+use Rattle.san_expr.specs.View.{ViewState, Agrees, Grows, IsSeen, is_known, over}
 
 -- the view's marking over a marking that agrees with it
-abbrev pub marking_of : Sight → List ℕ → List ℕ
+abbrev pub marking_of : ViewState → List ℕ → List ℕ
 marking_of s m = over s.own m
 
 -- for every marking that agrees with the view afterwards, with `was` the view's marking before: the answer is that of
 -- the meaning in `was`, and the marking that it leaves is the view's, also after a trap. Just the cells that are looked
 -- at and aren't the view's own become known, and just the assigned ones become its own.
-pub record Meets {T : Type 0} (old new : Sight) (a : Meaning T) (result : Result T Trap) : Type 0 where
+pub record Meets {T : Type 0} (old new : ViewState) (a : Meaning T) (result : Result T Trap) : Type 0 where
   pub answer : (m : List ℕ) → Agrees new m → (a (marking_of old m)).answer ≡ result
   pub left : (m : List ℕ) → Agrees new m → marking_of new m ≡ (a (marking_of old m)).left
   pub looks : (m : List ℕ) → Agrees new m → (p : ℕ)
@@ -25,6 +25,6 @@ pub record Meets {T : Type 0} (old new : Sight) (a : Meaning T) (result : Result
   pub kept : new.kept ≡ old.kept
 
 -- the same of a call that assigns nothing
-pub record Evaluates {T : Type 0} (old new : Sight) (a : Meaning T) (result : Result T Trap) : Type 0 where
+pub record Evaluates {T : Type 0} (old new : ViewState) (a : Meaning T) (result : Result T Trap) : Type 0 where
   pub meets : Meets old new a result
   pub own : new.own ≡ old.own

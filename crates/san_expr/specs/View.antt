@@ -7,8 +7,8 @@ abbrev pub Known : Type 0
 Known = ℕ → Option ℕ
 
 -- a view as contracts see it: how many cells there are, the values that were read, the values that the view has of
--- itself, the marking behind it where that is told, and numbers of the implementation's choice
-pub record Sight : Type 0 where
+-- itself, the marking behind it where that is known, and numbers of the implementation's choice
+pub record ViewState : Type 0 where
   pub places : ℕ
   pub first : Known
   pub own : Known
@@ -37,7 +37,7 @@ IsAt (Some v) n = v ≡ n
 IsAt None n = Unit {0}
 
 -- a marking of these cells that has the values that were read
-pub record Agrees (s : Sight) (m : List ℕ) : Type 0 where
+pub record Agrees (s : ViewState) (m : List ℕ) : Type 0 where
   pub sized : length m ≡ s.places
   pub has : (p : ℕ) → IsAt (s.first p) (slice_index m p)
 
@@ -45,7 +45,7 @@ pub record Agrees (s : Sight) (m : List ℕ) : Type 0 where
 abbrev pub Grows : Known → Known → Type 0
 Grows old new = (p v : ℕ) → old p ≡ Some v → new p ≡ Some v
 
--- the value of a cell in the marking behind, where that is told
+-- the value of a cell in the marking behind, where that is known
 abbrev pub IsBehind : List ℕ → ℕ → ℕ → Type 0
 IsBehind [] p v = Unit {0}
 IsBehind (x ∷ xs) p v = slice_index (x ∷ xs) p ≡ v
@@ -55,23 +55,23 @@ abbrev pub IsSeen : List ℕ → ℕ → ℕ → Type 0
 IsSeen behind p v = (v ≤ MAX_TOKENS) × IsBehind behind p v
 
 -- what a read answers, by the own value and the first one, and what it leaves
-abbrev pub Answers : Option ℕ → Option ℕ → Sight → Sight → ℕ → ℕ → Type 0
+abbrev pub Answers : Option ℕ → Option ℕ → ViewState → ViewState → ℕ → ℕ → Type 0
 Answers (Some w) first old new p v = (v ≡ w) × (new ≡ old)
 Answers None (Some w) old new p v = (v ≡ w) × (new ≡ old)
 Answers None None old new p v = IsSeen old.behind p v × (new ≡ record old { first = with old.first p v })
 
 -- a read gives the own value, else the first one, else a value that it enters as the first one
-abbrev pub Reads : Sight → Sight → ℕ → ℕ → Type 0
+abbrev pub Reads : ViewState → ViewState → ℕ → ℕ → Type 0
 Reads old new p v = Answers (old.own p) (old.first p) old new p v
 
 -- an assignment
-abbrev pub assigned : Sight → ℕ → ℕ → Sight
+abbrev pub assigned : ViewState → ℕ → ℕ → ViewState
 assigned s p v = record s { own = with s.own p v }
 
 -- a view of a whole marking: each cell is its own
-abbrev pub plain : List ℕ → Sight
+abbrev pub plain : List ℕ → ViewState
 plain values = record { places = length values; first = λ p. None; own = λ p. slice_get values p; behind = []; kept = [] }
 
 -- each cell is the view's own
-abbrev pub IsWhole : Sight → Type 0
+abbrev pub IsWhole : ViewState → Type 0
 IsWhole s = (p : ℕ) → p < s.places → IsTrue (is_known (s.own p))

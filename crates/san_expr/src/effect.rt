@@ -24,8 +24,8 @@ pub fn count_of(x: i64) -> Result<u32, Trap>
 }
 
 fn assign<V: Cells>(place: u32, x: i64, view: &mut V) -> Result<(), Trap>
-    requires { place < (V.sight view.old).places }
-    ensures { Meets (V.sight view.old) (V.sight view.new) (assign_at place x) result }
+    requires { place < (V.view_state view.old).places }
+    ensures { Meets (V.view_state view.old) (V.view_state view.new) (assign_at place x) result }
 {
     let count = count_of(x)?;
     view.set(place, count);
@@ -33,9 +33,9 @@ fn assign<V: Cells>(place: u32, x: i64, view: &mut V) -> Result<(), Trap>
 }
 
 fn assign_value<V: Cells>(place: u32, e: &Expr, view: &mut V) -> Result<(), Trap>
-    requires place { place < (V.sight view.old).places }
-    requires value { IsTrue (places_below e.now (V.sight view.old).places) }
-    ensures { Meets (V.sight view.old) (V.sight view.new) (then_do (value_of e.now) (assign_at place)) result }
+    requires place { place < (V.view_state view.old).places }
+    requires value { IsTrue (places_below e.now (V.view_state view.old).places) }
+    ensures { Meets (V.view_state view.old) (V.view_state view.new) (then_do (value_of e.now) (assign_at place)) result }
 {
     let x = eval(e, view)?;
     assign(place, x, view)
@@ -49,9 +49,9 @@ fn assign_cell<V: Cells>(
     e: &Expr,
     view: &mut V,
 ) -> Result<(), Trap>
-    requires array { IsTrue (array_below first length (V.sight view.old).places) }
-    requires value { IsTrue (places_below e.now (V.sight view.old).places) }
-    ensures { Meets (V.sight view.old) (V.sight view.new) (then_do (settled (cell_of first length index)) (λ p. then_do (value_of e.now) (assign_at p))) result }
+    requires array { IsTrue (array_below first length (V.view_state view.old).places) }
+    requires value { IsTrue (places_below e.now (V.view_state view.old).places) }
+    ensures { Meets (V.view_state view.old) (V.view_state view.new) (then_do (settled (cell_of first length index)) (λ p. then_do (value_of e.now) (assign_at p))) result }
 {
     let place = cell_of(first, length, index)?;
     assign_value(place, e, view)
@@ -60,8 +60,8 @@ fn assign_cell<V: Cells>(
 /// The effect of statements, in order; after a trap the view holds the assignments made before it.
 #[cycle(stmts)]
 pub fn run_stmts<V: Cells>(body: &[Stmt], view: &mut V) -> Result<(), Trap>
-    requires { IsTrue (stmts_below body.now (V.sight view.old).places) }
-    ensures { Meets (V.sight view.old) (V.sight view.new) (effects_of body.now) result }
+    requires { IsTrue (stmts_below body.now (V.view_state view.old).places) }
+    ensures { Meets (V.view_state view.old) (V.view_state view.new) (effects_of body.now) result }
 {
     for stmt in body {
         run_stmt(stmt, view)?;
@@ -71,8 +71,8 @@ pub fn run_stmts<V: Cells>(body: &[Stmt], view: &mut V) -> Result<(), Trap>
 
 #[cycle(stmts)]
 fn run_stmt<V: Cells>(stmt: &Stmt, view: &mut V) -> Result<(), Trap>
-    requires { IsTrue (stmt_below stmt.now (V.sight view.old).places) }
-    ensures { Meets (V.sight view.old) (V.sight view.new) (effect_of stmt.now) result }
+    requires { IsTrue (stmt_below stmt.now (V.view_state view.old).places) }
+    ensures { Meets (V.view_state view.old) (V.view_state view.new) (effect_of stmt.now) result }
 {
     match stmt {
         Stmt::Set(place, e) => assign_value(*place, e, view),

@@ -1,6 +1,6 @@
 //! The plain view: a whole marking.
 ghost use Rattle.std.specs.Prelude.{◌≡◌, ◌<◌, ◌≤◌, length};
-ghost use Rattle.san_expr.specs.View.{Sight, Reads, assigned, plain};
+ghost use Rattle.san_expr.specs.View.{ViewState, Reads, assigned, plain};
 
 use crate::view::{Cells, Marked};
 use std::marker::Model;
@@ -37,7 +37,7 @@ impl Marking {
 }
 
 impl Marked for Marking {
-    ghost sight = { plain };
+    ghost view_state = { plain };
 
     fn read(&mut self, place: u32) -> u32 {
         self.values[place as usize]

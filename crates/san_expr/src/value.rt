@@ -74,8 +74,8 @@ pub(crate) fn cell_of(first: u32, length: u32, index: i64) -> Result<u32, Trap>
 
 /// The value of an element of an array, by its index.
 fn read_at<V: Marked>(first: u32, length: u32, index: i64, view: &mut V) -> Result<i64, Trap>
-    requires { IsTrue (array_below first length (V.sight view.old).places) }
-    ensures { Evaluates (V.sight view.old) (V.sight view.new) (then_do (settled (cell_of first length index)) value_at) result }
+    requires { IsTrue (array_below first length (V.view_state view.old).places) }
+    ensures { Evaluates (V.view_state view.old) (V.view_state view.new) (then_do (settled (cell_of first length index)) value_at) result }
 {
     let place = cell_of(first, length, index)?;
     Ok(i64::from(view.read(place)))
@@ -84,8 +84,8 @@ fn read_at<V: Marked>(first: u32, length: u32, index: i64, view: &mut V) -> Resu
 /// The value of an expression. `Trap::Arith` comes from a value outside of 64 bits and from a zero
 /// divisor, `Trap::Index` from an index outside of its array.
 pub fn eval<V: Marked>(e: &Expr, view: &mut V) -> Result<i64, Trap>
-    requires { IsTrue (places_below e.now (V.sight view.old).places) }
-    ensures { Evaluates (V.sight view.old) (V.sight view.new) (value_of e.now) result }
+    requires { IsTrue (places_below e.now (V.view_state view.old).places) }
+    ensures { Evaluates (V.view_state view.old) (V.view_state view.new) (value_of e.now) result }
 {
     match e {
         Expr::Number(n) => Ok(*n),

@@ -47,8 +47,8 @@ pub values-ordered : (homes : List CellHome) (initial : List ℕ) (s : Seen) →
 values-ordered homes initial s w =
     let f = often same homes in
     let g = value_at homes initial in
-    let counts = w.told.counts ∙ ap (map f) w.told.keys in
-    let values = w.values ∙ ap (map g) w.told.keys in
+    let counts = w.recorded.counts ∙ ap (map f) w.recorded.keys in
+    let values = w.values ∙ ap (map g) w.recorded.keys in
     ap (λ c. picked true c s.values.items ++ picked false c s.values.items) counts ∙ ap (λ v. picked true (map f (firsts same homes)) v ++ picked false (map f (firsts same homes)) v) values
     ∙ ap (λ v. v ++ picked false (map f (firsts same homes)) (map g (firsts same homes))) (picked-twice f g (firsts same homes))
     ∙ ap (λ v. map g (repeated same homes) ++ v) (picked-once f g (firsts same homes))

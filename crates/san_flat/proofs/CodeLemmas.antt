@@ -1,4 +1,5 @@
 -- What the loops of a flattening keep, over plain lists.
+use Rattle.san_check.proofs.FreshLemmas.{some_same}
 use Rattle.std.proofs.Common.{◌≡◌, ℕ, zero, suc, ◌+◌, ◌<◌, ◌≤◌, Bool, true, false, cond, List, [], ◌∷◌, ◌++◌, length, refl, ap, sym, ◌∙◌, subst, arith, map, take, drop, Some, None, filter, nat_eq, append_assoc, append-nil, length-append, get_or, fold}
 use Rattle.std.specs.Prelude.{position, slice_get, slice_index, is_some}
 use Rattle.std.specs.List.{count_by, list_any, position_or_len}
@@ -8,9 +9,9 @@ use Rattle.std.proofs.lemmas.List.{length-map, map-append, take-append-drop, tak
 use Rattle.std.proofs.lemmas.List.Sums.{fold-append, length-filter}
 use Rattle.std.proofs.lemmas.Option.{get_or_from_slice_get, slice_get-get_or, slice_get_within}
 use Rattle.san_flat.proofs.HomeLemmas.{same-equiv}
-use Rattle.san_flat.proofs.ListLemmas.{get-map, some-inj}
+use Rattle.san_flat.proofs.ListLemmas.{get-map}
 use Rattle.san_flat.proofs.NumberLemmas.{at-number, count-through}
-use Rattle.san_flat.proofs.SightLemmas.{eq-seen}
+use Rattle.san_flat.proofs.SightingLemmas.{eq-seen}
 use Rattle.san_check.specs.declared.model.Model.{Model}
 use Rattle.san_flat.specs.Homes.{CellHome, homes_in, same, home_of_key}
 use Rattle.san_flat.specs.Networks.{slot_of, values_in}
@@ -21,9 +22,9 @@ use Rattle.san_flat.specs.declared.numbers.Numbers.{Numbers}
 use Rattle.san_flat.specs.declared.seen.Seen.{Seen}
 use Rattle.san_net.specs.declared.part.Slot.{Slot}
 use Rattle.san_tree.specs.declared.instance.Instance.{Instance}
-use Rattle.san_net.proofs.RankLemmas.{told-ranked}
+use Rattle.san_net.proofs.RankLemmas.{recorded-ranked}
 use Rattle.san_net.proofs.SeenLemmas.{position-map}
-use Rattle.san_net.specs.Numbering.{IsTold, added, all_of, firsts, is_often, number, often, ranked, repeated}
+use Rattle.san_net.specs.Numbering.{AreRecorded, added, all_of, firsts, is_often, number, often, ranked, repeated}
 
 -- a home that is there is found at its position
 found-position : (keys : List HomeKey) (h : HomeKey) → list_any (same (home_of_key h)) (map home_of_key keys) ≡ true → position (eq-seen h) keys ≡ Some (position_or_len (same (home_of_key h)) (map home_of_key keys))
@@ -37,7 +38,7 @@ found-position keys h there =
 pub place-found : (homes : List CellHome) (n : Numbers) (h : HomeKey) (at : ℕ) → AreNumbers homes n → list_any (same (home_of_key h)) homes ≡ true → position (eq-seen h) n.homes.keys ≡ Some at → slice_index n.places.items at ≡ number same homes (home_of_key h)
 place-found homes n h at a there is =
     let own = a.all (home_of_key h) ∙ there in
-    let here = some-inj _ at (sym (found-position n.homes.keys h own) ∙ is) in
+    let here = some_same _ at (sym (found-position n.homes.keys h own) ∙ is) in
     let stands = at-number (map home_of_key n.homes.keys) (home_of_key h) own in
     ap (λ xs. slice_index xs at) a.places
     ∙ get_or_from_slice_get (map (number same homes) (map home_of_key n.homes.keys)) at (number same homes (home_of_key h)) 0
@@ -47,15 +48,15 @@ pub place-lost : (homes : List CellHome) (n : Numbers) (h : HomeKey) → AreNumb
 place-lost homes n h a there is = true≢false (ap is_some (sym (found-position n.homes.keys h (a.all (home_of_key h) ∙ there)) ∙ is))
 
 -- so many were seen twice
-pub twice-counted : (homes : List CellHome) (ks : List CellHome) (counts : List ℕ) → IsTold same homes ks counts → count_by (λ n. nat_eq n 2) counts ≡ length (repeated same homes)
+pub twice-counted : (homes : List CellHome) (ks : List CellHome) (counts : List ℕ) → AreRecorded same homes ks counts → count_by (λ n. nat_eq n 2) counts ≡ length (repeated same homes)
 twice-counted homes ks counts t =
     ap (count_by (λ n. nat_eq n 2)) (t.counts ∙ ap (map (often same homes)) t.keys)
     ∙ count-through (often same homes) (λ n. nat_eq n 2) (is_often same homes) (firsts same homes) (λ _ _. refl)
     ∙ sym (length-filter (is_often same homes) (firsts same homes))
 
-pub numbers-are : (homes : List CellHome) (ks : List CellHome) (counts : List ℕ) (shared : ℕ) → IsTold same homes ks counts → shared ≡ length (repeated same homes) → ranked 0 shared counts ≡ map (number same homes) ks
+pub numbers-are : (homes : List CellHome) (ks : List CellHome) (counts : List ℕ) (shared : ℕ) → AreRecorded same homes ks counts → shared ≡ length (repeated same homes) → ranked 0 shared counts ≡ map (number same homes) ks
 numbers-are homes ks counts shared t e =
-    ap (λ n. ranked 0 n counts) (e ∙ ap (λ xs. length (filter (is_often same homes) xs)) (sym t.keys)) ∙ told-ranked same same-equiv homes ks counts t
+    ap (λ n. ranked 0 n counts) (e ∙ ap (λ xs. length (filter (is_often same homes) xs)) (sym t.keys)) ∙ recorded-ranked same same-equiv homes ks counts t
 
 -- one more slot
 pub slot-turn : {X : Type 0} (f : X → CellHome) (homes : List CellHome) (cells all : List X) (k : ℕ) (d : X) (h : CellHome) (s : Slot) (slots more : List Slot) → k < length cells → cells ≡ all → h ≡ f (get_or cells k d) → AreAmong homes (map f all) → (list_any (same h) homes ≡ true → s ≡ slot_of homes h) → more ≡ slots ++ s ∷ [] → slots ≡ map (slot_of homes) (map f (take k cells)) → more ≡ map (slot_of homes) (map f (take (k + 1) cells))

@@ -1,4 +1,6 @@
 -- A leaf of a model: where it stands in the tree, what it is, the homes of its cells.
+use Rattle.san_base.proofs.Bools.{or_right}
+use Rattle.san_check.proofs.FreshLemmas.{some_same}
 use Rattle.std.proofs.Common.{◌≡◌, ℕ, zero, suc, ◌<◌, ◌≤◌, true, ◌||◌, List, [], ◌∷◌, length, ap, sym, ◌∙◌, subst, arith, Some}
 use Rattle.std.specs.Prelude.{slice_get}
 use Rattle.std.specs.List.{All, list_any}
@@ -6,8 +8,8 @@ use Rattle.std.proofs.lemmas.List.{length-map, length-take-le}
 use Rattle.std.proofs.lemmas.List.Folds.{list_any-append}
 use Rattle.std.proofs.lemmas.Option.{get_or_from_slice_get, slice_get-get_or, slice_get_within}
 use Rattle.san_check.specs.declared.model.Model.{Model}
-use Rattle.san_flat.proofs.HomeLemmas.{home_near, same-equiv, or-true}
-use Rattle.san_flat.proofs.ListLemmas.{apart-map, some-inj}
+use Rattle.san_flat.proofs.HomeLemmas.{home_near, same-equiv}
+use Rattle.san_flat.proofs.ListLemmas.{apart-map}
 use Rattle.san_flat.proofs.TreePaths.{IsPath, paths-are}
 use Rattle.san_check.specs.Composed.{IsComposed}
 use Rattle.san_flat.specs.Homes.{CellHome, cells_at, home_of, homes_in, rows_of, same}
@@ -84,16 +86,16 @@ module _ (m : Model) (composed : Composes m) where
 
 found-at : (row : List CellHome) (j : ℕ) (h : CellHome) → slice_get row j ≡ Some h → list_any (same h) row ≡ true
 found-at [] j h at = absurd cc
-found-at (x ∷ row) zero h at = ap (λ b. b || list_any (same h) row) (ap (same h) (some-inj x h at) ∙ same-equiv.refl h)
-found-at (x ∷ row) (suc j) h at = ap (λ b. same h x || b) (found-at row j h at) ∙ or-true (same h x)
+found-at (x ∷ row) zero h at = ap (λ b. b || list_any (same h) row) (ap (same h) (some_same x h at) ∙ same-equiv.refl h)
+found-at (x ∷ row) (suc j) h at = ap (λ b. same h x || b) (found-at row j h at) ∙ or_right (same h x)
 
 -- a leaf's homes are among all homes
 pub home-found : (nodes : List Node) (root : ℕ) (cells : List (List (ℕ × ℕ))) (leaves : List Instance) (n j : ℕ) (i : Instance) (h : CellHome) → slice_get leaves n ≡ Some i → slice_get (homes_in nodes root cells i) j ≡ Some h → list_any (same h) (all_of (rows_of nodes root cells leaves)) ≡ true
 home-found nodes root cells [] n j i h at here = absurd cc
 home-found nodes root cells (k ∷ leaves) zero j i h at here =
     let row = homes_in nodes root cells k in
-    let there : list_any (same h) row ≡ true = found-at row j h (ap (λ x. slice_get (homes_in nodes root cells x) j) (some-inj k i at) ∙ here) in
+    let there : list_any (same h) row ≡ true = found-at row j h (ap (λ x. slice_get (homes_in nodes root cells x) j) (some_same k i at) ∙ here) in
     list_any-append (same h) row (all_of (rows_of nodes root cells leaves)) ∙ ap (λ b. b || list_any (same h) (all_of (rows_of nodes root cells leaves))) there
 home-found nodes root cells (k ∷ leaves) (suc n) j i h at here =
     let row = homes_in nodes root cells k in
-    list_any-append (same h) row (all_of (rows_of nodes root cells leaves)) ∙ ap (λ b. list_any (same h) row || b) (home-found nodes root cells leaves n j i h at here) ∙ or-true (list_any (same h) row)
+    list_any-append (same h) row (all_of (rows_of nodes root cells leaves)) ∙ ap (λ b. list_any (same h) row || b) (home-found nodes root cells leaves n j i h at here) ∙ or_right (list_any (same h) row)

@@ -1,6 +1,6 @@
 pub mod HomeLemmas
 pub mod PropLemmas
-pub mod SightLemmas
+pub mod SightingLemmas
 pub mod ListLemmas
 pub mod TreePaths
 pub mod TextLemmas

@@ -1,20 +1,18 @@
 -- Lists in which nothing stands twice, by index.
+use Rattle.san_check.proofs.FreshLemmas.{some_same}
 use Rattle.std.proofs.Common.{◌≡◌, ℕ, zero, suc, List, [], ◌∷◌, ◌++◌, refl, ap, sym, ◌∙◌, arith, map, inl, inr, ◌⊎◌, Some}
 use Rattle.std.specs.Prelude.{slice_get, unwrap_or}
 use Rattle.san_net.specs.Apart.{AreApart}
 
-pub some-inj : {X : Type 0} (x y : X) → Some x ≡ Some y → x ≡ y
-some-inj x y h = ap (λ o. unwrap_or o x) h
-
 -- what stands in a mapped list
 pub got-map : {X Y : Type 0} (f : X → Y) (xs : List X) (i : ℕ) (y : Y) → slice_get (map f xs) i ≡ Some y → (x : X) × ((slice_get xs i ≡ Some x) × (f x ≡ y))
 got-map f [] i y h = absurd cc
-got-map f (x ∷ xs) zero y h = (x, (refl, some-inj (f x) y h))
+got-map f (x ∷ xs) zero y h = (x, (refl, some_same (f x) y h))
 got-map f (x ∷ xs) (suc i) y h = got-map f xs i y h
 
 pub get-map : {X Y : Type 0} (f : X → Y) (xs : List X) (i : ℕ) (x : X) → slice_get xs i ≡ Some x → slice_get (map f xs) i ≡ Some (f x)
 get-map f [] i x h = absurd cc
-get-map f (y ∷ xs) zero x h = ap Some (ap f (some-inj y x h))
+get-map f (y ∷ xs) zero x h = ap Some (ap f (some_same y x h))
 get-map f (y ∷ xs) (suc i) x h = get-map f xs i x h
 
 got-append : {X : Type 0} (xs ys : List X) (i : ℕ) (x : X) → slice_get (xs ++ ys) i ≡ Some x → ((j : ℕ) × (slice_get xs j ≡ Some x)) ⊎ ((j : ℕ) × (slice_get ys j ≡ Some x))

@@ -22,7 +22,7 @@ use Rattle.san_flat.specs.inner.Models.{homes_of, leaves_of, part_of, parts_from
 use Rattle.san_flat.specs.Paths.{path_text}
 use Rattle.san_net.specs.Accepted.{IsAccepted, rewards_of}
 use Rattle.san_net.specs.Apart.{AreApart}
-use Rattle.san_net.specs.Laid.{EachPart, IsNetwork, IsSlotted, IsTagged, IsValued, MayBeTold, acts_of, all_places, is_blank, place_of}
+use Rattle.san_net.specs.Laid.{EachPart, IsNetwork, IsSlotted, IsTagged, IsValued, TakesImpulses, acts_of, all_places, is_blank, place_of}
 use Rattle.san_net.specs.Numbering.{all_of, counting, firsts, is_often, number, ordered, repeated}
 use Rattle.san_net.specs.declared.part.Part.{Part}
 use Rattle.san_net.specs.declared.part.Slot.{Slot}
@@ -141,7 +141,7 @@ module _ (m : Model) (composed : Composes m) (few : leaf_count m ≤ 4096) where
       few = composed.few_rewards;
       spans = composed.spans;
       known = each-part (λ _ p. All (λ r. r < length m.rewards) (rewards_of p.atomic)) (λ n i at p. all-at (λ x. All (λ r. r < length m.rewards) (rewards_of x)) m.atomics composed.known i.atomic (atomic_at m.atomics i.atomic) p.atomic);
-      told = each-part (λ _ p. All (λ t. MayBeTold (slice_get m.rewards t.reward)) p.atomic.impulses) (λ n i at p. all-at (λ x. All (λ t. MayBeTold (slice_get m.rewards t.reward)) x.impulses) m.atomics composed.told i.atomic (atomic_at m.atomics i.atomic) p.atomic);
+      intervals = each-part (λ _ p. All (λ t. TakesImpulses (slice_get m.rewards t.reward)) p.atomic.impulses) (λ n i at p. all-at (λ x. All (λ t. TakesImpulses (slice_get m.rewards t.reward)) x.impulses) m.atomics composed.intervals i.atomic (atomic_at m.atomics i.atomic) p.atomic);
     };
     slotted = each-part (λ _ p. IsSlotted (length (repeated same homes)) p) slotted;
     valued = each-part (λ _ p. IsValued initial p) valued;

@@ -1,4 +1,5 @@
 -- The numbers of homes: each home has one, those of the places in order count from 0, the repeated ones come first.
+use Rattle.san_base.proofs.Bools.{both_true, or_right}
 use Rattle.std.proofs.Common.{◌≡◌, ℕ, suc, ◌+◌, Bool, true, false, not, cond, ◌&&◌, ◌||◌, List, [], ◌∷◌, ◌++◌, length, refl, ap, sym, ◌∙◌, subst, arith, map, filter, min, nat_eq, inl, inr, ◌⊎◌, append-nil, append_assoc, Some}
 use Rattle.std.specs.Prelude.{slice_get}
 use Rattle.std.specs.List.{count_by, list_any, position_or_len}
@@ -7,13 +8,13 @@ use Rattle.std.proofs.Math.Bool.{true≢false}
 use Rattle.std.proofs.lemmas.Bool.{cases_Bool, eq-eqb, eqb-true}
 use Rattle.std.proofs.lemmas.List.Folds.{list_any-append}
 use Rattle.std.proofs.lemmas.List.Sums.{sum_by-append, sum_by-cons}
-use Rattle.san_flat.proofs.HomeLemmas.{and-true, same-equiv, or-true}
+use Rattle.san_flat.proofs.HomeLemmas.{same-equiv}
 use Rattle.san_flat.specs.Homes.{CellHome, same}
-use Rattle.san_net.proofs.CountingLemmas.{told-range}
+use Rattle.san_net.proofs.CountingLemmas.{recorded-range}
 use Rattle.san_net.proofs.RenumberLemmas.{have-all, ordered-map}
 use Rattle.san_net.proofs.RowLemmas.{tells}
-use Rattle.san_net.proofs.SeenLemmas.{none_of, told-again, told-new}
-use Rattle.san_net.specs.Numbering.{IsTold, counting, firsts, is_often, number, ordered, repeated}
+use Rattle.san_net.proofs.SeenLemmas.{none_of, recorded-again, recorded-new}
+use Rattle.san_net.specs.Numbering.{AreRecorded, counting, firsts, is_often, number, ordered, repeated}
 
 -- homes that are one are equal
 paths-same : (a b : List ℕ) → pointwise nat_eq a b ≡ true → a ≡ b
@@ -21,7 +22,7 @@ paths-same [] [] h = refl
 paths-same [] (y ∷ ys) h = absurd (true≢false (sym h))
 paths-same (x ∷ xs) [] h = absurd (true≢false (sym h))
 paths-same (x ∷ xs) (y ∷ ys) h =
-    let two = and-true (nat_eq x y) (pointwise nat_eq xs ys) h in
+    let two = both_true (nat_eq x y) (pointwise nat_eq xs ys) h in
     ap (λ k. k ∷ xs) (eqb-true x y two.0) ∙ ap (λ ks. y ∷ ks) (paths-same xs ys two.1)
 
 abbrev home_with : List ℕ → ℕ → ℕ → CellHome
@@ -29,26 +30,26 @@ home_with path place element = record { path = path; place = place; element = el
 
 pub same-is : (a b : CellHome) → same a b ≡ true → a ≡ b
 same-is a b h =
-    let two = and-true (pointwise nat_eq a.path b.path) (nat_eq a.place b.place && nat_eq a.element b.element) h in
-    let more = and-true (nat_eq a.place b.place) (nat_eq a.element b.element) two.1 in
+    let two = both_true (pointwise nat_eq a.path b.path) (nat_eq a.place b.place && nat_eq a.element b.element) h in
+    let more = both_true (nat_eq a.place b.place) (nat_eq a.element b.element) two.1 in
     ap (λ p. home_with p a.place a.element) (paths-same a.path b.path two.0) ∙ ap (λ p. home_with b.path p a.element) (eqb-true a.place b.place more.0) ∙ ap (λ e. home_with b.path b.place e) (eqb-true a.element b.element more.1)
 
 -- homes seen one by one: what is known of them in the end
-record Told (xs : List CellHome) : Type 0 where
+record Recorded (xs : List CellHome) : Type 0 where
   keys : List CellHome
   counts : List ℕ
-  told : IsTold same xs keys counts
+  recorded : AreRecorded same xs keys counts
 
-told-from : (done ks : List CellHome) (counts : List ℕ) (xs : List CellHome) → IsTold same done ks counts → Told (done ++ xs)
-told-from done ks counts [] t = subst Told (sym (append-nil done)) (record { keys = ks; counts = counts; told = t })
-told-from done ks counts (x ∷ xs) t = subst Told (append_assoc done (x ∷ []) xs) (by_test (λ k c n. told-from (done ++ x ∷ []) k c xs n) (cases_Bool (list_any (same x) ks)))
+recorded-from : (done ks : List CellHome) (counts : List ℕ) (xs : List CellHome) → AreRecorded same done ks counts → Recorded (done ++ xs)
+recorded-from done ks counts [] t = subst Recorded (sym (append-nil done)) (record { keys = ks; counts = counts; recorded = t })
+recorded-from done ks counts (x ∷ xs) t = subst Recorded (append_assoc done (x ∷ []) xs) (by_test (λ k c n. recorded-from (done ++ x ∷ []) k c xs n) (cases_Bool (list_any (same x) ks)))
   where
-    by_test : ((k : List CellHome) (c : List ℕ) → IsTold same (done ++ x ∷ []) k c → Told ((done ++ x ∷ []) ++ xs)) → (list_any (same x) ks ≡ true) ⊎ (list_any (same x) ks ≡ false) → Told ((done ++ x ∷ []) ++ xs)
-    by_test rest (inl there) = rest _ _ (told-again same same-equiv done ks counts x there t)
-    by_test rest (inr new) = rest _ _ (told-new same same-equiv done ks counts x new t)
+    by_test : ((k : List CellHome) (c : List ℕ) → AreRecorded same (done ++ x ∷ []) k c → Recorded ((done ++ x ∷ []) ++ xs)) → (list_any (same x) ks ≡ true) ⊎ (list_any (same x) ks ≡ false) → Recorded ((done ++ x ∷ []) ++ xs)
+    by_test rest (inl there) = rest _ _ (recorded-again same same-equiv done ks counts x there t)
+    by_test rest (inr new) = rest _ _ (recorded-new same same-equiv done ks counts x new t)
 
-told-all : (xs : List CellHome) → Told xs
-told-all xs = told-from [] [] [] xs (record { keys = refl; counts = refl; differ = tt; all = λ k. refl })
+recorded-all : (xs : List CellHome) → Recorded xs
+recorded-all xs = recorded-from [] [] [] xs (record { keys = refl; counts = refl; differ = tt; all = λ k. refl })
 
 -- the two groups of an order have what its items have
 any-split : (t p : CellHome → Bool) (xs : List CellHome) → list_any t (filter p xs ++ filter (λ k. not (p k)) xs) ≡ list_any t xs
@@ -73,7 +74,7 @@ any-split t p xs = list_any-append t (filter p xs) (filter (λ k. not (p k)) xs)
 
 pub in-ordered : (xs : List CellHome) (k : CellHome) → list_any (same k) xs ≡ true → list_any (same k) (ordered same xs) ≡ true
 in-ordered xs k h =
-    let t = (told-all xs).told in
+    let t = (recorded-all xs).recorded in
     any-split (same k) (is_often same xs) (firsts same xs) ∙ ap (list_any (same k)) (sym t.keys) ∙ t.all k ∙ h
 
 -- the numbers in order count from 0
@@ -82,7 +83,7 @@ numbers-count xs =
     let Has : CellHome → Type 0 = λ h. list_any (same h) (ordered same xs) ≡ true in
     let tell : (h k : CellHome) → Has h → Has k → nat_eq (number same xs h) (number same xs k) ≡ same h k = λ h k m n. tells same same-equiv (ordered same xs) h k m n in
     ordered-map same same-equiv nat_eq (number same xs) Has tell xs (have-all same same-equiv nat_eq (number same xs) Has tell xs (in-ordered xs))
-    ∙ told-range same same-equiv xs (told-all xs).keys (told-all xs).counts (told-all xs).told
+    ∙ recorded-range same same-equiv xs (recorded-all xs).keys (recorded-all xs).counts (recorded-all xs).recorded
 
 -- as many of some numbers pass a test as of the homes that have them pass theirs
 pub count-through : (f : CellHome → ℕ) (p : ℕ → Bool) (q : CellHome → Bool) (zs : List CellHome) → ((k : CellHome) → list_any (same k) zs ≡ true → p (f k) ≡ q k) → count_by p (map f zs) ≡ count_by q zs
@@ -91,7 +92,7 @@ count-through f p q (z ∷ zs) h =
     let front = sum_by-cons (λ w. none_of (p w)) (f z) (map f zs) in
     let other = sum_by-cons (λ w. none_of (q w)) z zs in
     let here : none_of (p (f z)) ≡ none_of (q z) = ap none_of (h z (ap (λ b. b || list_any (same z) zs) (same-equiv.refl z))) in
-    let rest = count-through f p q zs (λ k t. h k (ap (λ b. same k z || b) t ∙ or-true (same k z))) in
+    let rest = count-through f p q zs (λ k t. h k (ap (λ b. same k z || b) t ∙ or_right (same k z))) in
     omega (arith, front, other, here, rest)
 
 module _ {X : Type 0} (p : X → Bool) where

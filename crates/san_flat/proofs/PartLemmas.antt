@@ -1,9 +1,9 @@
 -- The parts of a model, one by one.
+use Rattle.san_check.proofs.FreshLemmas.{some_same}
 use Rattle.std.proofs.Common.{◌≡◌, ℕ, zero, suc, ◌+◌, List, [], ◌∷◌, length, refl, ap, sym, ◌∙◌, arith, take, Some}
 use Rattle.std.specs.Prelude.{slice_get}
 use Rattle.std.proofs.lemmas.List.Sums.{sum_by-cons}
 use Rattle.san_check.specs.declared.model.Model.{Model}
-use Rattle.san_flat.proofs.ListLemmas.{some-inj}
 use Rattle.san_flat.specs.Networks.{atomic_at}
 use Rattle.san_flat.specs.inner.Models.{acts_in, part_of, parts_from}
 use Rattle.san_net.specs.Laid.{acts_of}
@@ -36,7 +36,7 @@ part-at m leaf first [] n p h = absurd cc
 part-at m leaf first (i ∷ leaves) zero p h =
     let a : leaf ≡ leaf + 0 = omega arith in
     let b : first ≡ first + 0 = omega arith in
-    record { instance = i; there = refl; is = sym (some-inj (part_of m leaf first i) p h) ∙ ap (λ k. part_of m k first i) a ∙ ap (λ k. part_of m (leaf + 0) k i) b }
+    record { instance = i; there = refl; is = sym (some_same (part_of m leaf first i) p h) ∙ ap (λ k. part_of m k first i) a ∙ ap (λ k. part_of m (leaf + 0) k i) b }
 part-at m leaf first (i ∷ leaves) (suc n) p h =
     let acts = length (atomic_at m.atomics i.atomic).acts in
     let parts = parts_from m (leaf + 1) (first + acts) leaves in

@@ -6,7 +6,7 @@ use Rattle.san_delay.specs.Sound.{IsSound}
 use Rattle.san_expr.specs.declared.dist.Dist.{Dist}
 use Rattle.san_expr.specs.declared.dist.Dist.TheVariants as dist
 use Rattle.san_net.specs.Accepted.{IsAcceptedInput, IsAcceptedKind, IsAcceptedOutput}
-use Rattle.san_net.specs.Laid.{IsInterval, IsNetwork, IsSpan, IsTagged, MayBeTold}
+use Rattle.san_net.specs.Laid.{IsInterval, IsNetwork, IsSpan, IsTagged, TakesImpulses}
 use Rattle.san_net.specs.Network.{Network}
 use Rattle.san_net.specs.declared.activity.ActKind.{ActKind}
 use Rattle.san_net.specs.declared.activity.ActKind.TheVariants as kind
@@ -52,11 +52,11 @@ interval-prop (span.Over from to) = Unit-prop
 interval-prop (span.Mean from to) = Unit-prop
 interval-prop (span.At tick) = Prim.hlevel props
 
-told-prop : (r : Option Reward) → IsProp (MayBeTold r)
-told-prop None = Unit-prop
-told-prop (Some r) = interval-prop r.span
+impulses-prop : (r : Option Reward) → IsProp (TakesImpulses r)
+impulses-prop None = Unit-prop
+impulses-prop (Some r) = interval-prop r.span
 
-ruleset all = (props, kind-prop, input-prop, output-prop, tagged-prop, span-prop, told-prop)
+ruleset all = (props, kind-prop, input-prop, output-prop, tagged-prop, span-prop, impulses-prop)
 
 pub network-prop : (n : Network) → IsProp (IsNetwork n)
 network-prop n = Prim.hlevel all

@@ -1,13 +1,12 @@
 -- The paths of leaves as texts: no blank in them, and two paths of one text are one.
-use Rattle.san_flat.proofs.HomeLemmas.{and-true}
+use Rattle.san_base.proofs.Bools.{both_true, or_second}
 use Rattle.std.proofs.Common.{◌≡◌, ℕ, ◌<◌, Bool, true, false, ◌&&◌, ◌||◌, List, [], ◌∷◌, ◌++◌, length, refl, ap, sym, ◌∙◌, subst, arith, map, drop, get_or, Some, nat_eq, nat_le, inl, inr, ◌⊎◌, append_assoc}
 use Rattle.std.specs.Prelude.{IsTrue, slice_get, slice_index_or}
 use Rattle.std.specs.Fmt.{decimal}
 use Rattle.std.specs.List.{All, list_any}
 use Rattle.std.specs.Str.Parse.{AllDigits, digits_value}
 use Rattle.std.proofs.Math.Bool.{true≢false}
-use Rattle.std.proofs.lemmas.Bool.{le-leb}
-use Rattle.std.proofs.lemmas.Bool.Decides.{eqb_tells}
+use Rattle.std.proofs.lemmas.Bool.Decides.{eqb_tells, nat_tests}
 use Rattle.std.proofs.lemmas.Fmt.{decimal_is_IsNumeral}
 use Rattle.std.proofs.lemmas.List.Folds.{list_any-append}
 use Rattle.std.proofs.lemmas.Option.{slice_get-get_or}
@@ -18,58 +17,51 @@ use Rattle.san_check.specs.Composed.{children_of}
 use Rattle.san_flat.specs.Paths.{name_of, path_text, step_text, steps_text}
 use Rattle.san_net.specs.Apart.{AreApart}
 use Rattle.san_net.specs.Laid.{is_blank}
-use Rattle.san_net.specs.Names.{are_in_name, is_digit, is_letter, is_name}
+use Rattle.san_base.specs.Names.{each, is_digit, is_in_name, is_letter, is_name}
 use Rattle.san_tree.specs.Places.{child_of, node_at}
 use Rattle.san_tree.specs.declared.node.Node.{Node}
 use Rattle.san_tree.specs.declared.node.Node.TheVariants.{Leaf, Join, Rep}
 
-abbrev in_name : ℕ → Bool
-in_name b = is_letter b || (is_digit b || nat_eq b 95)
-
-or-right : (a b : Bool) → b ≡ true → (a || b) ≡ true
-or-right true b h = refl
-or-right false b h = h
-
 -- a text that no letter, digit or `_` begins
 abbrev Stops : List ℕ → Type 0
 Stops [] = Unit {0}
-Stops (b ∷ text) = in_name b ≡ false
+Stops (b ∷ text) = is_in_name b ≡ false
 
 -- the name at the front ends where the text behind it begins
-name-ends : (xs ys t u : List ℕ) → are_in_name xs ≡ true → are_in_name ys ≡ true → Stops t → Stops u → xs ++ t ≡ ys ++ u → (xs ≡ ys) × (t ≡ u)
+name-ends : (xs ys t u : List ℕ) → each is_in_name xs ≡ true → each is_in_name ys ≡ true → Stops t → Stops u → xs ++ t ≡ ys ++ u → (xs ≡ ys) × (t ≡ u)
 name-ends [] [] t u a b s r e = (refl, e)
-name-ends [] (y ∷ ys) t u a b s r e = absurd (true≢false (sym (and-true (in_name y) (are_in_name ys) b).0 ∙ subst Stops e s))
-name-ends (x ∷ xs) [] t u a b s r e = absurd (true≢false (sym (and-true (in_name x) (are_in_name xs) a).0 ∙ subst Stops (sym e) r))
+name-ends [] (y ∷ ys) t u a b s r e = absurd (true≢false (sym (both_true (is_in_name y) (each is_in_name ys) b).0 ∙ subst Stops e s))
+name-ends (x ∷ xs) [] t u a b s r e = absurd (true≢false (sym (both_true (is_in_name x) (each is_in_name xs) a).0 ∙ subst Stops (sym e) r))
 name-ends (x ∷ xs) (y ∷ ys) t u a b s r e =
-    let rest = name-ends xs ys t u (and-true (in_name x) (are_in_name xs) a).1 (and-true (in_name y) (are_in_name ys) b).1 s r (ap (drop 1) e) in
+    let rest = name-ends xs ys t u (both_true (is_in_name x) (each is_in_name xs) a).1 (both_true (is_in_name y) (each is_in_name ys) b).1 s r (ap (drop 1) e) in
     let same : x ≡ y = ap (λ zs. get_or zs 0 0) e in
     (ap (λ z. z ∷ xs) same ∙ ap (λ zs. y ∷ zs) rest.0, rest.1)
 
-digits-in-name : (ds : List ℕ) → AllDigits 10 ds → are_in_name ds ≡ true
+digits-in-name : (ds : List ℕ) → AllDigits 10 ds → each is_in_name ds ≡ true
 digits-in-name [] h = refl
 digits-in-name (d ∷ ds) h =
     let range = digit_at (d ∷ ds) 0 h (omega arith) in
-    let digit : is_digit d ≡ true = ap (λ b. b && nat_le d 57) (le-leb 48 d range.0) ∙ le-leb d 57 range.1 in
-    ap (λ b. b && are_in_name ds) (or-right (is_letter d) (is_digit d || nat_eq d 95) (ap (λ b. b || nat_eq d 95) digit)) ∙ digits-in-name ds h.1
+    let digit : is_digit d ≡ true = grind (arith, nat_tests, range.0, range.1) in
+    ap (λ b. b && each is_in_name ds) (or_second (is_letter d) (is_digit d || nat_eq d 95) (ap (λ b. b || nat_eq d 95) digit)) ∙ digits-in-name ds h.1
 
-decimal-in-name : (n : ℕ) → n < 4096 → are_in_name (decimal n) ≡ true
+decimal-in-name : (n : ℕ) → n < 4096 → each is_in_name (decimal n) ≡ true
 decimal-in-name n l = digits-in-name (decimal n) (decimal_is_IsNumeral n (omega (arith, l))).0.1
 
 decimal-tells : (m n : ℕ) → m < 4096 → n < 4096 → decimal m ≡ decimal n → m ≡ n
 decimal-tells m n k l e = sym (decimal_is_IsNumeral m (omega (arith, k))).1 ∙ ap (digits_value 10) e ∙ (decimal_is_IsNumeral n (omega (arith, l))).1
 
-name-in-name : (name : List ℕ) → IsTrue (is_name name) → are_in_name name ≡ true
+name-in-name : (name : List ℕ) → IsTrue (is_name name) → each is_in_name name ≡ true
 name-in-name [] h = refl
 name-in-name (b ∷ bs) h =
-    let two = and-true (is_letter b) (are_in_name bs) h in
-    ap (λ x. (x || (is_digit b || nat_eq b 95)) && are_in_name bs) two.0 ∙ two.1
+    let two = both_true (is_letter b) (each is_in_name bs) h in
+    ap (λ x. (x || (is_digit b || nat_eq b 95)) && each is_in_name bs) two.0 ∙ two.1
 
 -- the children of a node have different names
 pub record AreNamed (node : Node) : Type 0 where
   pub names : All (λ c. IsTrue (is_name c.0)) (children_of node)
   pub apart : AreApart (map (λ c. c.0) (children_of node))
 
-child-name : (children : List (List ℕ × ℕ)) → All (λ c. IsTrue (is_name c.0)) children → (c : ℕ) → c < length children → are_in_name (name_of children c) ≡ true
+child-name : (children : List (List ℕ × ℕ)) → All (λ c. IsTrue (is_name c.0)) children → (c : ℕ) → c < length children → each is_in_name (name_of children c) ≡ true
 child-name children h c l = name-in-name (name_of children c) (h c ([], 0) l)
 
 name-at : (children : List (List ℕ × ℕ)) (c : ℕ) → c < length children → slice_get (map (λ x. x.0) children) c ≡ Some (name_of children c)
@@ -120,14 +112,14 @@ pub texts-tell : (system : List ℕ) (nodes : List Node) → ((n : ℕ) → AreN
 texts-tell system nodes named root p q h i e = steps-tell nodes named root p q h i (front-goes system (steps_text nodes root p) (steps_text nodes root q) e)
 
 -- none of the four blanks is in a name
-no-blank : (b : ℕ) → in_name b ≡ true → is_blank b ≡ false
+no-blank : (b : ℕ) → is_in_name b ≡ true → is_blank b ≡ false
 no-blank b h = by_tests (eqb_tells b 32) (eqb_tells b 9) (eqb_tells b 10) (eqb_tells b 13)
   where
     Differs : ℕ → Type 0
     Differs k = ((nat_eq b k ≡ true) × (b ≡ k)) ⊎ ((nat_eq b k ≡ false) × (b ≡ k → ⊥))
 
-    never : (k : ℕ) → in_name k ≡ false → b ≡ k → ⊥
-    never k none e = true≢false (sym h ∙ ap in_name e ∙ none)
+    never : (k : ℕ) → is_in_name k ≡ false → b ≡ k → ⊥
+    never k none e = true≢false (sym h ∙ ap is_in_name e ∙ none)
 
     by_tests : Differs 32 → Differs 9 → Differs 10 → Differs 13 → is_blank b ≡ false
     by_tests (inl x) y z w = absurd (never 32 refl x.1)
@@ -136,10 +128,10 @@ no-blank b h = by_tests (eqb_tells b 32) (eqb_tells b 9) (eqb_tells b 10) (eqb_t
     by_tests (inr x) (inr y) (inr z) (inl w) = absurd (never 13 refl w.1)
     by_tests (inr x) (inr y) (inr z) (inr w) = ap (λ c. c || (nat_eq b 9 || (nat_eq b 10 || nat_eq b 13))) x.0 ∙ ap (λ c. c || (nat_eq b 10 || nat_eq b 13)) y.0 ∙ ap (λ c. c || nat_eq b 13) z.0 ∙ w.0
 
-no-blanks : (bs : List ℕ) → are_in_name bs ≡ true → list_any is_blank bs ≡ false
+no-blanks : (bs : List ℕ) → each is_in_name bs ≡ true → list_any is_blank bs ≡ false
 no-blanks [] h = refl
 no-blanks (b ∷ bs) h =
-    let two = and-true (in_name b) (are_in_name bs) h in
+    let two = both_true (is_in_name b) (each is_in_name bs) h in
     ap (λ c. c || list_any is_blank bs) (no-blank b two.0) ∙ no-blanks bs two.1
 
 both-unbroken : (xs ys : List ℕ) → list_any is_blank xs ≡ false → list_any is_blank ys ≡ false → list_any is_blank (xs ++ ys) ≡ false

@@ -8,6 +8,7 @@ use Rattle.std.proofs.lemmas.List.Elements.{All-append, All-cons, All-map, All-n
 use Rattle.std.proofs.lemmas.Option.{slice_get_within, get_or_from_slice_get}
 use Rattle.san_flat.proofs.ListLemmas.{apart-append, apart-map, apart-nil, got-map}
 use Rattle.san_net.specs.Apart.{AreApart}
+use Rattle.san_tree.proofs.LeafLemmas.{length-below}
 use Rattle.san_tree.proofs.WalkLemmas.{grown-long, instances-at, no-child, own-child}
 use Rattle.san_tree.specs.Instances.{below, copied, grown, instances, instances_of, joined, onto}
 use Rattle.san_tree.specs.inner.Walks.{earlier}
@@ -121,9 +122,6 @@ entry-paths nodes n m h = by_order (cases_lt m n)
     by_order : (m < n) ⊎ (n ≤ m) → HavePaths nodes m (slice_index_or (earlier nodes n) m [])
     by_order (inl before) = subst (HavePaths nodes m) (sym (own-child nodes n m before)) (h m before)
     by_order (inr past) = subst (HavePaths nodes m) (sym (no-child nodes n m past)) (no-paths nodes m)
-
-length-below : (c : ℕ) (xs : List Instance) → length (below c xs) ≡ length xs
-length-below c xs = length-map xs (onto (c ∷ []))
 
 joined-from : (nodes : List Node) (n c : ℕ) (children : List (List ℕ × ℕ)) → ((m : ℕ) → HavePaths nodes m (slice_index_or (earlier nodes n) m [])) → ((j : ℕ) → j < length children → (child_of (node_at nodes n) (c + j) ≡ node_of children j) × HasChild (node_at nodes n) (c + j)) → length (joined (earlier nodes n) c children) ≤ 4096 → AreFrom nodes n c (joined (earlier nodes n) c children)
 joined-from nodes n c [] h e few = none-from nodes n c

@@ -6,7 +6,7 @@ ghost use Rattle.san_base.specs.declared.limits.TheConstants.{MAX_PLACES};
 ghost use Rattle.san_flat.specs.Homes.{CellHome, same, home_of_key};
 ghost use Rattle.san_flat.specs.Networks.{slot_at, slot_of};
 ghost use Rattle.san_flat.specs.inner.Sightings.{AreNumbers};
-ghost use Rattle.san_net.specs.Numbering.{IsTold, number, ranked};
+ghost use Rattle.san_net.specs.Numbering.{AreRecorded, number, ranked};
 
 use crate::home::HomeKey;
 use indexmap::IndexSet;
@@ -59,7 +59,7 @@ pub(crate) fn numbers_of(
 ) -> Result<Numbers, NoMemory>
     requires { length counts.now ≤ MAX_PLACES }
     ensures { IfOk result (λ numbers. (cells : List CellHome)
-        → IsTold same cells (map home_of_key homes.keys) counts.now → AreNumbers cells numbers) }
+        → AreRecorded same cells (map home_of_key homes.keys) counts.now → AreNumbers cells numbers) }
 {
     let shared = repeated(counts) as u32;
     let places = ranks(alloc, counts, shared)?;

@@ -51,7 +51,7 @@ fn note(seen: &mut Seen, home: HomeKey, value: u32) -> Result<(), NoMemory>
 }
 
 /// One more cell is seen. Answers whether the homes are still no more than a network has places.
-#[tactic(auto, using(crate::proofs::SightLemmas::sees))]
+#[tactic(auto, using(crate::proofs::SightingLemmas::sees))]
 fn see(seen: &mut Seen, home: HomeKey, value: u32) -> Result<bool, NoMemory>
     ensures { IfOk result (λ fits. (homes : List CellHome) (initial : List ℕ) → IsSeen homes initial seen.old
         → Sees fits (homes ++ home_of_key home ∷ []) (initial ++ value ∷ []) seen.new) }

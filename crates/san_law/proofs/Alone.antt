@@ -7,7 +7,7 @@ use Rattle.san_law.specs.Network.{Limits, Network, net_of, no_part, part_at}
 use Rattle.san_law.specs.Net.{Broken, Done, Enabled, Faulty, Found, Fresh, Local, Net, Nothing, Renewing, Slot, without_timer}
 use Rattle.san_law.specs.Block.{Block, after_done, after_found, before, fault_of, more_of, settle}
 use Rattle.san_law.specs.State.{part_of}
-use Rattle.san_law.specs.Piece.{Fire, Kind, LeafState, Outcome, Refresh, Settle, dropped, fired_outcome, outcome_of, own, piece_of, renewed_outcome, sees, sight, writes_from}
+use Rattle.san_law.specs.Piece.{Fire, Kind, LeafState, Outcome, Refresh, Settle, dropped, fired_outcome, outcome_of, own, piece_of, renewed_outcome, sees, leaf_view, writes_from}
 use Rattle.san_law.specs.Alone.{PieceIsAlone, alone}
 
 get_is : (ps : List Part) (j : ℕ) (p : Part) → slice_get ps j ≡ Some p → slice_index_or ps j no_part ≡ p
@@ -46,8 +46,8 @@ module _ (n : Network) (draw : ℕ → ℕ → ℕ) (limits any : Limits) (j : �
   outcomes : (seen : List ℕ) (b : Block) → outcome_of whole j seen b ≡ outcome_of here 0 seen b
   outcomes seen b = ap (λ (ss : List Slot). let o : Outcome = record { completions = b.completions; writes = writes_from b.sets 0 ss b.left.values; state = record { values = own ss b.left.values; row = b.left.row; seen = seen }; rates = []; fault = fault_of b.close; more = more_of b.close } in o) slots
 
-  sights : (base : LeafState) (shared : List ℕ) → sight (part_of whole j) base.values shared ≡ sight (part_of here 0) base.values shared
-  sights base shared = ap (λ (ss : List Slot). sight ss base.values shared) slots
+  leaf_views : (base : LeafState) (shared : List ℕ) → leaf_view (part_of whole j) base.values shared ≡ leaf_view (part_of here 0) base.values shared
+  leaf_views base shared = ap (λ (ss : List Slot). leaf_view ss base.values shared) slots
 
   fired : (fuel : ℕ) (base : LeafState) (k : ℕ) (d : Result Done Trap) → fired_outcome whole fuel j base k d ≡ fired_outcome here fuel 0 base k d
   fired fuel base k (Err trap) = refl
@@ -55,17 +55,17 @@ module _ (n : Network) (draw : ℕ → ℕ → ℕ) (limits any : Limits) (j : �
 
   pieces : (kind : Kind) (time : ℕ) (base : LeafState) (shared : List ℕ) → piece_of whole j kind time base shared ≡ piece_of here 0 kind time base shared
   pieces Settle time base shared =
-      ap (λ (vs : List ℕ). outcome_of whole j base.seen (settle whole j 64 (record { values = vs; row = base.row }))) (sights base shared)
+      ap (λ (vs : List ℕ). outcome_of whole j base.seen (settle whole j 64 (record { values = vs; row = base.row }))) (leaf_views base shared)
       ∙ (ap (outcome_of whole j base.seen) (settles 64 (sees here 0 base shared))
       ∙ outcomes base.seen (settle here 0 64 (sees here 0 base shared)))
   pieces (Fire k) time base shared =
-      ap (λ (vs : List ℕ). fired_outcome whole 63 j base k (whole.done j k (record { values = vs; row = without_timer base.row k }))) (sights base shared)
+      ap (λ (vs : List ℕ). fired_outcome whole 63 j base k (whole.done j k (record { values = vs; row = without_timer base.row k }))) (leaf_views base shared)
       ∙ fired 63 base k (here.done 0 k (dropped here (sees here 0 base shared) k))
   pieces Refresh time base shared =
-      ap (λ (vs : List ℕ). renewed_outcome whole j base vs (whole.renewed j time base.seen (record { values = vs; row = base.row }))) (sights base shared)
+      ap (λ (vs : List ℕ). renewed_outcome whole j base vs (whole.renewed j time base.seen (record { values = vs; row = base.row }))) (leaf_views base shared)
       ∙ renews (here.renewed 0 time base.seen (sees here 0 base shared))
     where
-      renews : (r : Renewing) → renewed_outcome whole j base (sight (part_of here 0) base.values shared) r ≡ renewed_outcome here 0 base (sight (part_of here 0) base.values shared) r
+      renews : (r : Renewing) → renewed_outcome whole j base (leaf_view (part_of here 0) base.values shared) r ≡ renewed_outcome here 0 base (leaf_view (part_of here 0) base.values shared) r
       renews (Faulty k trap) = refl
       renews (Fresh r) = refl
 

@@ -10,7 +10,7 @@ use Rattle.san_law.specs.Next.{Completes, TrapsAt, next_instant, next_of}
 use Rattle.san_law.specs.Step.{Ending, Happened, Over, Stepped, Trapped, complete, event_of, limit_at, step, unless_over, with_local}
 use Rattle.san_law.specs.Trajectory.{Runs}
 use Rattle.san_law.specs.Block.{Block, Close, Completion, FailsDone, FailsTest, More, Rests, after_done, after_found, before, completion_of, ended, fault_of, settle}
-use Rattle.san_law.specs.Told.{Told, ending_or, event_then, told, unless_told}
+use Rattle.san_law.specs.Admitted.{Admitted, ending_or, event_then, admitted, unless_ended}
 use Rattle.san_law.specs.Lawful.{AllBelow, AreDistinct, IsLawful}
 use Rattle.san_law.specs.Standing.{nothing_in}
 use Rattle.san_law.proofs.Places.{gather_scatter, scatter_length, scatter_same, scatter_twice}
@@ -44,14 +44,14 @@ abbrev pub EndsAs : Net → State → State → ℕ → ℕ → Block → Option
 EndsAs net s t j burst b None = Did net s t j burst b
 EndsAs net s t j burst b (Some e) = (step net t).0 ≡ Over s.time e
 
-abbrev pub Claim : Net → ℕ → State → Block → Told → Type 0
+abbrev pub Claim : Net → ℕ → State → Block → Admitted → Type 0
 Claim net j s b x = (t : State) × Runs net s x.0 t × EndsAs net s t j (s.burst + length b.completions) b x.1
 
-abbrev told_at : Net → State → ℕ → Block → Told
-told_at net s j b = told net s.time j s.burst s.count (fault_of b.close) b.completions
+abbrev admitted_at : Net → State → ℕ → Block → Admitted
+admitted_at net s j b = admitted net s.time j s.burst s.count (fault_of b.close) b.completions
 
 abbrev pub Ahead : Net → ℕ → ℕ → Type 0
-Ahead net j n = (s : State) (l : Local) → local_of net s j ≡ l → Fits net s j → IsReady net s j → Claim net j s (settle net j n l) (told_at net s j (settle net j n l))
+Ahead net j n = (s : State) (l : Local) → local_of net s j ≡ l → Fits net s j → IsReady net s j → Claim net j s (settle net j n l) (admitted_at net s j (settle net j n l))
 
 did_nothing : (net : Net) (j : ℕ) (s : State) (l : Local) (c : Close) → local_of net s j ≡ l → (c ≡ Rests → nothing_in net s j) → Did net s s j (s.burst + 0) (ended l c)
 did_nothing net j s l c is rests = record {
@@ -107,13 +107,13 @@ ends_more net j k burst0 burst burst1 s t o b (Some e) same d = d
 
 -- one completion, and then the rest
 pub one_more : (net : Net) (j k burst1 burst : ℕ) (s u : State) (d : Done) (b : Block) → step net s ≡ (Happened (event_of u.time j k d), with_local net u burst1 j d.left)
-    → Claim net j (with_local net u burst1 j d.left) b (told net u.time j burst1 (u.count + 1) (fault_of b.close) b.completions)
+    → Claim net j (with_local net u burst1 j d.left) b (admitted net u.time j burst1 (u.count + 1) (fault_of b.close) b.completions)
     → burst1 + length b.completions ≡ burst
-    → let x : Told = event_then (event_of u.time j k d) (told net u.time j burst1 (u.count + 1) (fault_of b.close) b.completions) in (t : State) × Runs net s x.0 t × EndsAs net u t j burst (before k d b) x.1
+    → let x : Admitted = event_then (event_of u.time j k d) (admitted net u.time j burst1 (u.count + 1) (fault_of b.close) b.completions) in (t : State) × Runs net s x.0 t × EndsAs net u t j burst (before k d b) x.1
 one_more net j k burst1 burst s u d b go (t, runs, ends) same = (
   t,
-  (ap (λ (x : Stepped × State). x.0) go, subst (λ (v : State). Runs net v (told net u.time j burst1 (u.count + 1) (fault_of b.close) b.completions).0 t) (sym (ap (λ (x : Stepped × State). x.1) go)) runs),
-  ends_more net j k (burst1 + length b.completions) burst burst1 u t d b (told net u.time j burst1 (u.count + 1) (fault_of b.close) b.completions).1 same ends,
+  (ap (λ (x : Stepped × State). x.0) go, subst (λ (v : State). Runs net v (admitted net u.time j burst1 (u.count + 1) (fault_of b.close) b.completions).0 t) (sym (ap (λ (x : Stepped × State). x.1) go)) runs),
+  ends_more net j k (burst1 + length b.completions) burst burst1 u t d b (admitted net u.time j burst1 (u.count + 1) (fault_of b.close) b.completions).1 same ends,
 )
 
 -- where the limits let the leaf's activity through
@@ -122,7 +122,7 @@ unfolding step
 step_at net j k s o p next lim done = rw (next, lim, done) refl
 
 by_limit : (net : Net) (law : IsLawful net) (n j k : ℕ) (s : State) (l : Local) (o : Option Ending) (d : Done) → Ahead net j n → local_of net s j ≡ l → Fits net s j → next_instant net s ≡ Completes j k → limit_at net s.burst s.count ≡ o → net.done j k l ≡ Ok d
-    → let b = settle net j n d.left in Claim net j s (before k d b) (unless_told o (event_then (event_of s.time j k d) (told net s.time j (s.burst + 1) (s.count + 1) (fault_of b.close) b.completions)))
+    → let b = settle net j n d.left in Claim net j s (before k d b) (unless_ended o (event_then (event_of s.time j k d) (admitted net s.time j (s.burst + 1) (s.count + 1) (fault_of b.close) b.completions)))
 by_limit net law n j k s l (Some e) d ahead is fits next lim done =
     let here : net.done j k (local_of net s j) ≡ Ok d = ap (net.done j k) is ∙ done in
     (s, refl, ap (λ (x : Stepped × State). x.0) (step_at net j k s (Some e) (Ok d) next lim here))
@@ -139,7 +139,7 @@ fails_by net j k trap s l None is next lim done = ap (λ (x : Stepped × State).
 fails_by net j k trap s l (Some e) is next lim done = ap (λ (x : Stepped × State). x.0) (step_at net j k s (Some e) (Err trap) next lim (ap (net.done j k) is ∙ done))
 
 by_done : (net : Net) (law : IsLawful net) (n j k : ℕ) (s : State) (l : Local) (o : Result Done Trap) → Ahead net j n → local_of net s j ≡ l → Fits net s j → next_instant net s ≡ Completes j k → net.done j k l ≡ o
-    → Claim net j s (after_done (settle net j n) l k o) (told_at net s j (after_done (settle net j n) l k o))
+    → Claim net j s (after_done (settle net j n) l k o) (admitted_at net s j (after_done (settle net j n) l k o))
 by_done net law n j k s l (Err trap) ahead is fits next done = (s, refl, fails_by net j k trap s l (limit_at net s.burst s.count) is next refl done)
 by_done net law n j k s l (Ok d) ahead is fits next done = by_limit net law n j k s l (limit_at net s.burst s.count) d ahead is fits next refl done
 
@@ -148,7 +148,7 @@ unfolding step
 trap_at net j k trap s next = rw next refl
 
 by_found : (net : Net) (law : IsLawful net) (n j : ℕ) (s : State) (l : Local) (f : Found) → Ahead net j n → local_of net s j ≡ l → Fits net s j → IsReady net s j → next_of net s j ≡ f
-    → let b = after_found (settle net j n) (λ k. net.done j k l) l f in Claim net j s b (told_at net s j b)
+    → let b = after_found (settle net j n) (λ k. net.done j k l) l f in Claim net j s b (admitted_at net s j b)
 by_found net law n j s l Nothing ahead is fits ready e = (s, refl, did_nothing net j s l Rests is (λ r. e))
 by_found net law n j s l (Broken k trap) ahead is fits ready e = (s, refl, trap_at net j k trap s (ready.broken k trap e))
 by_found net law n j s l (Enabled k) ahead is fits ready e = by_done net law n j k s l (net.done j k l) ahead is fits (ready.enabled k e) refl

@@ -44,9 +44,9 @@ module _ (net : Net) (time : ℕ) where
       none : (n : ℕ) → n ≡ n + 0
       none n = omega arith
   counts t (e ∷ es) =
-      let told = tally_after net t time time (e ∷ []) in
-      counts told es
-      ∙ (ap (λ ss. summed t ss (told.impulses + impulses_in es)) (then (adds net es) (λ r s. plus (going_on net t time (time - time) r s) (plus (event_sum net r e) zero_sum)) 0 t.sums ∙ like (λ r s. plus (plus (going_on net t time (time - time) r s) (plus (event_sum net r e) zero_sum)) (events_sum net r es)) (adds net (e ∷ es)) 0 t.sums (one t e es))
+      let admitted = tally_after net t time time (e ∷ []) in
+      counts admitted es
+      ∙ (ap (λ ss. summed t ss (admitted.impulses + impulses_in es)) (then (adds net es) (λ r s. plus (going_on net t time (time - time) r s) (plus (event_sum net r e) zero_sum)) 0 t.sums ∙ like (λ r s. plus (plus (going_on net t time (time - time) r s) (plus (event_sum net r e) zero_sum)) (events_sum net r es)) (adds net (e ∷ es)) 0 t.sums (one t e es))
       ∙ ap (summed t (sums_from (adds net (e ∷ es)) 0 t.sums)) (more t.impulses (length e.impulses) (impulses_in es)))
     where
       more : (a b c : ℕ) → a + (b + 0) + c ≡ a + (b + c)

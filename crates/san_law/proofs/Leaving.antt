@@ -7,10 +7,10 @@ use Rattle.san_law.specs.State.{State, part_of}
 use Rattle.san_law.specs.Renewal.{Due, least_from}
 use Rattle.san_law.specs.Step.{Ending, Event, count_limit, limit_at}
 use Rattle.san_law.specs.Block.{Completion, Fault, More, Rests, fault_of, more_of, settle}
-use Rattle.san_law.specs.Told.{Told, event_by, event_then, told, told_fire, told_rest, unless_told}
+use Rattle.san_law.specs.Admitted.{Admitted, event_by, event_then, admitted, admitted_fire, admitted_rest, unless_ended}
 use Rattle.san_law.specs.Piece.{Fire, Kind, Outcome, Refresh, Settle, dropped, fired_outcome, outcome_of, renewed_outcome}
 use Rattle.san_law.specs.Order.{Finished, Needs, first_true, flag, flags_from, going_after, need_due, need_going, need_of, need_stale, need_unsettled, order_after, stale_after, unsettled_after}
-use Rattle.san_law.specs.Core.{Core, advance, burst_fired, leaf_of, sight_of, take_need, take_piece, take_told, taken, with_block}
+use Rattle.san_law.specs.Core.{Core, advance, burst_fired, leaf_of, leaf_view_of, take_need, take_piece, take_admitted, taken, with_block}
 use Rattle.san_law.specs.Lawful.{IsLawful}
 use Rattle.san_law.specs.Standing.{Stands}
 use Rattle.san_law.specs.Left.{PieceLeavesLess, add_true, count_true, left, left_by, left_flags, left_going}
@@ -18,10 +18,10 @@ use Rattle.san_law.proofs.Places.{writes_none}
 use Rattle.san_law.proofs.Flags.{first_is, length_flags}
 use Rattle.san_law.proofs.Steps.{count_room, limit_room}
 use Rattle.san_law.proofs.Blocks.{keeps, last_after}
-use Rattle.san_law.proofs.Settles.{more_last, told_closes}
+use Rattle.san_law.proofs.Settles.{more_last, admitted_closes}
 use Rattle.san_law.proofs.Lefts.{count_long, count_set, events_less, stale_more, unsettled_less}
 
-unless_clear : (o : Option Ending) (x : Told) → (unless_told o x).1 ≡ None → o ≡ None
+unless_clear : (o : Option Ending) (x : Admitted) → (unless_ended o x).1 ≡ None → o ≡ None
 unless_clear None x e = refl
 unless_clear (Some o) x e = cc
 
@@ -38,7 +38,7 @@ module _ (net : Net) (law : IsLawful net) (opening : State) (past : List Event) 
   less_by : (m : ℕ) → m < left_by net c None → m < left net c
   less_by m h = subst (λ n. m < n) (sym left_here) h
 
-  take_left : (time : ℕ) (kind : Kind) (x : Told) (whole : List Event → Core) → (x.1 ≡ None → left net (whole x.0) < left_by net c None) → left net (take_told net c time kind x whole) < left_by net c None
+  take_left : (time : ℕ) (kind : Kind) (x : Admitted) (whole : List Event → Core) → (x.1 ≡ None → left net (whole x.0) < left_by net c None) → left net (take_admitted net c time kind x whole) < left_by net c None
   take_left time kind (es, Some e) whole h = omega arith
   take_left time kind (es, None) whole h = h refl
 
@@ -75,50 +75,50 @@ module _ (net : Net) (law : IsLawful net) (opening : State) (past : List Event) 
       (subst (λ f. (net.limit - c.count) * (3 * length net.parts + 3) + f + 1 < left_by net c None) (sym flags)
       (flags_less ((net.limit - c.count) * (3 * length net.parts + 3)) (0 + (2 * count_true (flags_from (unsettled_after net j []) 0 c.order.unsettled) + count_true (flags_from (stale_after net j []) 0 c.order.stale))) (left_flags c.order) (idle_flags j was)))
 
-  told_room : (time j burst count : ℕ) (fault : Option Fault) (a : Completion) (ks : List Completion) → (told net time j burst count fault (a ∷ ks)).1 ≡ None → count < net.limit
-  told_room time j burst count fault a ks e = limit_room net burst count (unless_clear (limit_at net burst count) (event_then (event_by time j a) (told net time j (burst + 1) (count + 1) fault ks)) e)
+  admitted_room : (time j burst count : ℕ) (fault : Option Fault) (a : Completion) (ks : List Completion) → (admitted net time j burst count fault (a ∷ ks)).1 ≡ None → count < net.limit
+  admitted_room time j burst count fault a ks e = limit_room net burst count (unless_clear (limit_at net burst count) (event_then (event_by time j a) (admitted net time j (burst + 1) (count + 1) fault ks)) e)
 
   -- a settling
-  settle_by : (j : ℕ) (ks : List Completion) → let b = settle net j 64 (sight_of net c j) in b.completions ≡ ks → (c.order.going ≡ Some j) ⊎ (flag c.order.unsettled j ≡ true)
-      → (told net c.order.time j c.burst c.count (fault_of b.close) b.completions).1 ≡ None → (es : List Event) → left net (with_block net c c.order.time (c.burst + length b.completions) (c.count + length b.completions) j es (outcome_of net j (leaf_of c j).seen b)) < left_by net c None
+  settle_by : (j : ℕ) (ks : List Completion) → let b = settle net j 64 (leaf_view_of net c j) in b.completions ≡ ks → (c.order.going ≡ Some j) ⊎ (flag c.order.unsettled j ≡ true)
+      → (admitted net c.order.time j c.burst c.count (fault_of b.close) b.completions).1 ≡ None → (es : List Event) → left net (with_block net c c.order.time (c.burst + length b.completions) (c.count + length b.completions) j es (outcome_of net j (leaf_of c j).seen b)) < left_by net c None
   settle_by j (a ∷ ks) e was whole es =
-      let b = settle net j 64 (sight_of net c j) in
-      let w : (told net c.order.time j c.burst c.count (fault_of b.close) (a ∷ ks)).1 ≡ None = subst (λ (xs : List Completion). (told net c.order.time j c.burst c.count (fault_of b.close) xs).1 ≡ None) e whole in
+      let b = settle net j 64 (leaf_view_of net c j) in
+      let w : (admitted net c.order.time j c.burst c.count (fault_of b.close) (a ∷ ks)).1 ≡ None = subst (λ (xs : List Completion). (admitted net c.order.time j c.burst c.count (fault_of b.close) xs).1 ≡ None) e whole in
       let n : 0 < length b.completions = omega (arith, ap (λ (xs : List Completion). length xs) e) in
-      block_events j c.order.time (c.burst + length b.completions) es (outcome_of net j (leaf_of c j).seen b) (told_room c.order.time j c.burst c.count (fault_of b.close) a ks w) n
+      block_events j c.order.time (c.burst + length b.completions) es (outcome_of net j (leaf_of c j).seen b) (admitted_room c.order.time j c.burst c.count (fault_of b.close) a ks w) n
   settle_by j [] e was whole es =
-      let b = settle net j 64 (sight_of net c j) in
-      let k = keeps net law j 64 (sight_of net c j) in
+      let b = settle net j 64 (leaf_view_of net c j) in
+      let k = keeps net law j 64 (leaf_view_of net c j) in
       block_idle j c.order.time (c.burst + length b.completions) es (outcome_of net j (leaf_of c j).seen b) e (writes_none b.sets (k.idle e) (part_of net j) b.left.values 0)
-      (rests_by (told_closes net c.order.time j c.burst c.count b.close b.completions whole)) was
+      (rests_by (admitted_closes net c.order.time j c.burst c.count b.close b.completions whole)) was
     where
-      rests_by : (let b = settle net j 64 (sight_of net c j) in (b.close ≡ Rests) ⊎ (b.close ≡ More)) → more_of (settle net j 64 (sight_of net c j)).close ≡ false
+      rests_by : (let b = settle net j 64 (leaf_view_of net c j) in (b.close ≡ Rests) ⊎ (b.close ≡ More)) → more_of (settle net j 64 (leaf_view_of net c j)).close ≡ false
       rests_by (inl r) = ap more_of r
-      rests_by (inr m) = absurd (no_last j (sym (ap (λ (xs : List Completion). last_after None j xs) e) ∙ more_last net j 63 (sight_of net c j) None m))
+      rests_by (inr m) = absurd (no_last j (sym (ap (λ (xs : List Completion). last_after None j xs) e) ∙ more_last net j 63 (leaf_view_of net c j) None m))
 
   settle_less : (j : ℕ) → (c.order.going ≡ Some j) ⊎ (flag c.order.unsettled j ≡ true) → left net (take_piece net c j Settle c.order.time) < left_by net c None
   settle_less j was =
-      let b = settle net j 64 (sight_of net c j) in
-      let x : Told = told net c.order.time j c.burst c.count (fault_of b.close) b.completions in
+      let b = settle net j 64 (leaf_view_of net c j) in
+      let x : Admitted = admitted net c.order.time j c.burst c.count (fault_of b.close) b.completions in
       take_left c.order.time Settle x (λ es. with_block net c c.order.time (c.burst + length b.completions) (c.count + length b.completions) j es (outcome_of net j (leaf_of c j).seen b)) (λ e. settle_by j b.completions refl was e x.0)
 
   -- a completion of a timer
   fire_by : (d : Due) (o : Result Done Trap) → let out = fired_outcome net 63 d.leaf (leaf_of c d.leaf) d.act o in
-      (told_fire net d.time d.leaf c.count out.fault out.completions).1 ≡ None → (es : List Event) → left net (with_block net c d.time (burst_fired (length out.completions)) (c.count + length out.completions) d.leaf es out) < left_by net c None
+      (admitted_fire net d.time d.leaf c.count out.fault out.completions).1 ≡ None → (es : List Event) → left net (with_block net c d.time (burst_fired (length out.completions)) (c.count + length out.completions) d.leaf es out) < left_by net c None
   fire_by d (Err trap) e es = no_trap (count_limit net c.count) e
     where
-      no_trap : (o : Option Ending) → (unless_told o (told_rest net d.time d.leaf c.count (Some (record { act = d.act; trap = trap; picked = true })) [])).1 ≡ None → left net (with_block net c d.time 0 (c.count + 0) d.leaf es (fired_outcome net 63 d.leaf (leaf_of c d.leaf) d.act (Err trap))) < left_by net c None
+      no_trap : (o : Option Ending) → (unless_ended o (admitted_rest net d.time d.leaf c.count (Some (record { act = d.act; trap = trap; picked = true })) [])).1 ≡ None → left net (with_block net c d.time 0 (c.count + 0) d.leaf es (fired_outcome net 63 d.leaf (leaf_of c d.leaf) d.act (Err trap))) < left_by net c None
       no_trap None f = cc
       no_trap (Some o) f = cc
   fire_by d (Ok m) e es =
       let out = fired_outcome net 63 d.leaf (leaf_of c d.leaf) d.act (Ok m) in
-      block_events d.leaf d.time (burst_fired (length out.completions)) es out (count_room net c.count (unless_clear (count_limit net c.count) (told_rest net d.time d.leaf c.count out.fault out.completions) e)) (omega arith)
+      block_events d.leaf d.time (burst_fired (length out.completions)) es out (count_room net c.count (unless_clear (count_limit net c.count) (admitted_rest net d.time d.leaf c.count out.fault out.completions) e)) (omega arith)
 
   fire_less : (d : Due) → left net (take_piece net c d.leaf (Fire d.act) d.time) < left_by net c None
   fire_less d =
-      let o = net.done d.leaf d.act (dropped net (sight_of net c d.leaf) d.act) in
+      let o = net.done d.leaf d.act (dropped net (leaf_view_of net c d.leaf) d.act) in
       let out = fired_outcome net 63 d.leaf (leaf_of c d.leaf) d.act o in
-      let x : Told = told_fire net d.time d.leaf c.count out.fault out.completions in
+      let x : Admitted = admitted_fire net d.time d.leaf c.count out.fault out.completions in
       take_left d.time (Fire d.act) x (λ es. with_block net c d.time (burst_fired (length out.completions)) (c.count + length out.completions) d.leaf es out) (λ e. fire_by d o e x.0)
 
   -- a renewal
@@ -136,7 +136,7 @@ module _ (net : Net) (law : IsLawful net) (opening : State) (past : List Event) 
 
   at_stale : (x : Option ℕ) → first_true 0 c.order.stale ≡ x → need_stale net.horizon c.order x ≢ Finished → left net (take_need net c (need_stale net.horizon c.order x)) < left_by net c None
   at_stale None is n = at_due (least_from 0 c.order.dues) n
-  at_stale (Some j) is n = refresh_by j (sight_of net c j).values (net.renewed j c.order.time (leaf_of c j).seen (sight_of net c j)) (first_is c.order.stale j is).set
+  at_stale (Some j) is n = refresh_by j (leaf_view_of net c j).values (net.renewed j c.order.time (leaf_of c j).seen (leaf_view_of net c j)) (first_is c.order.stale j is).set
 
   at_unsettled : (x : Option ℕ) → first_true 0 c.order.unsettled ≡ x → need_unsettled net.horizon c.order x ≢ Finished → left net (take_need net c (need_unsettled net.horizon c.order x)) < left_by net c None
   at_unsettled None is n = at_stale (first_true 0 c.order.stale) refl n

@@ -1,4 +1,5 @@
 -- Each needed piece leaves less to take.
+use Rattle.san_base.proofs.Bools.{or_false}
 use Rattle.std.proofs.Common.{ℕ, zero, suc, ◌+◌, ◌-◌, ◌*◌, ◌<◌, ◌≤◌, ◌≡◌, ◌∙◌, ◌||◌, ap, sym, refl, subst, List, [], ◌∷◌, length, Bool, true, false, arith, nat_eq, slice_set, cond}
 use Rattle.std.proofs.Math.Nat.{mul-le-mul_right}
 use Rattle.std.proofs.lemmas.Bool.{eqb-true, eq-eqb, ne_eqb}
@@ -20,16 +21,12 @@ count_set (false ∷ bs) (suc j) e = count_set bs j e
 abbrev one_set : Bool → ℕ → ℕ → Bool → Bool
 one_set v j i b = cond (nat_eq i j) v (b || false)
 
-or_no : (b : Bool) → (b || false) ≡ b
-or_no true = refl
-or_no false = refl
-
 -- after the number nothing changes
 count_after : (v : Bool) (j a : ℕ) (bs : List Bool) → j < a → count_true (flags_from (one_set v j) a bs) ≡ count_true bs
 count_after v j a [] h = refl
 count_after v j a (b ∷ bs) h =
     ap (λ q. add_true (cond q v (b || false)) (count_true (flags_from (one_set v j) (suc a) bs))) (not_equal (nat_eq a j) refl)
-    ∙ (ap (λ c. add_true c (count_true (flags_from (one_set v j) (suc a) bs))) (or_no b) ∙ ap (add_true b) (count_after v j (suc a) bs (omega (arith, h))))
+    ∙ (ap (λ c. add_true c (count_true (flags_from (one_set v j) (suc a) bs))) (or_false b) ∙ ap (add_true b) (count_after v j (suc a) bs (omega (arith, h))))
   where
     not_equal : (q : Bool) → nat_eq a j ≡ q → q ≡ false
     not_equal false e = refl
@@ -54,7 +51,7 @@ count_one v j a (b ∷ bs) = by_test (nat_eq a j) refl (count_one v j (suc a) bs
     add_any false false n = omega arith
 
     by_test : (q : Bool) → nat_eq a j ≡ q → count_true (flags_from (one_set v j) (suc a) bs) ≤ count_true bs + 1 → add_true (cond q v (b || false)) (count_true (flags_from (one_set v j) (suc a) bs)) ≤ add_true b (count_true bs) + 1
-    by_test false e h = subst (λ c. add_true c (count_true (flags_from (one_set v j) (suc a) bs)) ≤ add_true b (count_true bs) + 1) (sym (or_no b)) (add_more b (count_true (flags_from (one_set v j) (suc a) bs)) (count_true bs) h)
+    by_test false e h = subst (λ c. add_true c (count_true (flags_from (one_set v j) (suc a) bs)) ≤ add_true b (count_true bs) + 1) (sym (or_false b)) (add_more b (count_true (flags_from (one_set v j) (suc a) bs)) (count_true bs) h)
     by_test true e h =
         let k : j < suc a = omega (arith, eqb-true a j e) in
         subst (λ n. add_true v n ≤ add_true b (count_true bs) + 1) (sym (count_after v j (suc a) bs k)) (add_any v b (count_true bs))
@@ -72,7 +69,7 @@ count_less j a zero (b ∷ bs) e =
 count_less j a (suc i) (b ∷ bs) e =
     let k : nat_eq a j ≡ false = ne_eqb a j (omega (arith, e)) in
     subst (λ q. add_true (cond q false (b || false)) (count_true (flags_from (one_set false j) (suc a) bs)) + add_true (flag bs i) 0 ≤ add_true b (count_true bs)) (sym k)
-    (subst (λ c. add_true c (count_true (flags_from (one_set false j) (suc a) bs)) + add_true (flag bs i) 0 ≤ add_true b (count_true bs)) (sym (or_no b))
+    (subst (λ c. add_true c (count_true (flags_from (one_set false j) (suc a) bs)) + add_true (flag bs i) 0 ≤ add_true b (count_true bs)) (sym (or_false b))
     (add_more b (count_true (flags_from (one_set false j) (suc a) bs)) (add_true (flag bs i) 0) (count_true bs) (count_less j (suc a) i bs (omega (arith, e)))))
   where
     add_more : (c : Bool) (m d n : ℕ) → m + d ≤ n → add_true c m + d ≤ add_true c n

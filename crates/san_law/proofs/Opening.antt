@@ -7,13 +7,13 @@ use Rattle.san_law.specs.State.{blank_rows, gather, opening_state, part_of, repe
 use Rattle.san_law.specs.Piece.{LeafState, Outcome, kept, no_leaf, privates, renewed_outcome}
 use Rattle.san_law.specs.Order.{flag}
 use Rattle.san_law.specs.Reward.{zero_sum}
-use Rattle.san_law.specs.Core.{leaf_of, rates_of, sight_of}
+use Rattle.san_law.specs.Core.{leaf_of, rates_of, leaf_view_of}
 use Rattle.san_law.specs.Opening.{leaves_from, opening_core}
 use Rattle.san_law.specs.Lawful.{IsLaid, IsLawful}
 use Rattle.san_law.specs.Standing.{Counts, Follows, Holds, Upto}
 use Rattle.san_law.specs.Laws.{FreshIsUnchanged, OpensWell, unchanged}
 use Rattle.san_law.proofs.Orders.{served}
-use Rattle.san_law.proofs.Settles.{local_from, sight_values, stands_from}
+use Rattle.san_law.proofs.Settles.{local_from, leaf_view_values, stands_from}
 use Rattle.san_law.proofs.Standing.{pieces_keep}
 
 leaf_at : (ps : List (List Slot)) (rows : List Row) (m : List ℕ) (i : ℕ) → length rows ≡ length ps → i < length ps → slice_index_or (leaves_from ps rows m) i no_leaf ≡ (let l : LeafState = record { values = gather (privates (slice_index_or ps i [])) m; row = slice_index_or rows i no_row; seen = [] } in l)
@@ -132,8 +132,8 @@ fresh_is_unchanged net law opening past c s st i h e =
     let f = st.holds.fresh i h e in
     let v = gather (slots_of net i) s.marking in
     let l = leaf_of c i in
-    let w : (sight_of net c i).values ≡ v = sight_values net c s i st.holds h in
-    let here : sight_of net c i ≡ (let x : Local = record { values = v; row = l.row } in x) = local_from (sight_of net c i).values v l.row l.row w refl in
-    let same : net.renewed i c.order.time l.seen (sight_of net c i) ≡ Fresh l.row =
+    let w : (leaf_view_of net c i).values ≡ v = leaf_view_values net c s i st.holds h in
+    let here : leaf_view_of net c i ≡ (let x : Local = record { values = v; row = l.row } in x) = local_from (leaf_view_of net c i).values v l.row l.row w refl in
+    let same : net.renewed i c.order.time l.seen (leaf_view_of net c i) ≡ Fresh l.row =
     ap (net.renewed i c.order.time l.seen) here ∙ (served net law i c.order.time l.seen v (record { values = v; row = l.row }) (inl f.seen) ∙ f.quiet c.order.time) in
-    ap (renewed_outcome net i l (sight_of net c i).values) same ∙ same_outcome net i l (sight_of net c i).values l.seen (rates_of c i) refl (f.seen ∙ ap (kept net i) (sym w)) (f.rates ∙ ap (net.rates i) (sym w))
+    ap (renewed_outcome net i l (leaf_view_of net c i).values) same ∙ same_outcome net i l (leaf_view_of net c i).values l.seen (rates_of c i) refl (f.seen ∙ ap (kept net i) (sym w)) (f.rates ∙ ap (net.rates i) (sym w))

@@ -7,12 +7,12 @@ use Rattle.std.proofs.lemmas.Bool.{cases_lt, true≢false, eq-eqb, ne_eqb, eqb-t
 use Rattle.san_base.proofs.Bools.{or_none, or_right}
 use Rattle.san_law.specs.Net.{Private, Shared, Slot}
 use Rattle.san_law.specs.State.{gather, index_of, or_next, place_of, scatter, scatter_from, taken_from}
-use Rattle.san_law.specs.Piece.{own, privates, sight, with_write, writes_from}
+use Rattle.san_law.specs.Piece.{own, privates, leaf_view, with_write, writes_from}
 use Rattle.san_law.specs.Order.{any_in, is_in, places_of}
 use Rattle.san_law.specs.Core.{put}
 use Rattle.san_law.specs.Lawful.{AllApart, AllBelow, AreDistinct}
 
-scatter_from_length : (slots values : List ℕ) (q : ℕ) (m : List ℕ) → length (scatter_from slots values q m) ≡ length m
+pub scatter_from_length : (slots values : List ℕ) (q : ℕ) (m : List ℕ) → length (scatter_from slots values q m) ≡ length m
 scatter_from_length slots values q [] = refl
 scatter_from_length slots values q (v ∷ vs) = ap suc (scatter_from_length slots values (suc q) vs)
 
@@ -62,7 +62,7 @@ index_of_slot [] p d h = absurd (omega arith)
 index_of_slot (s ∷ ss) zero d h = let e : nat_eq s s ≡ true = grind (arith, nat_tests) in rw e refl
 index_of_slot (s ∷ ss) (suc p) d h = or_next_test (nat_eq (slice_index ss p) s) (index_of (slice_index ss p) ss) p (differs s (slice_index ss p) ss p d.0 (omega arith) refl) (index_of_slot ss p d.1 (omega arith))
 
-below_at : (slots : List ℕ) (n p : ℕ) → AllBelow slots n → p < length slots → slice_index slots p < n
+pub below_at : (slots : List ℕ) (n p : ℕ) → AllBelow slots n → p < length slots → slice_index slots p < n
 below_at [] n p b h = absurd (omega arith)
 below_at (s ∷ ss) n zero b h = b.0
 below_at (s ∷ ss) n (suc p) b h = below_at ss n p b.1 (omega arith)
@@ -283,12 +283,12 @@ put_is n P sets sh part v small long apart d same = ext_get_or 0 (put (writes_fr
     ∙ sym (scatter_at (map place_of part) v sh q k))
 
 -- a leaf's list of values from its own and the shared ones
-pub sight_is : (n : ℕ) (IsOthers : ℕ → Type 0) (part : List Slot) (m : List ℕ) → AllApart n IsOthers part → sight part (gather (privates part) m) (take n m) ≡ gather (map place_of part) m
-sight_is n P [] m a = refl
-sight_is n P (Private p ∷ ss) m a = ap (λ (vs : List ℕ). slice_index m p ∷ vs) (sight_is n P ss m a.2)
-sight_is n P (Shared q ∷ ss) m a =
-    ap (λ v. v ∷ sight ss (gather (privates ss) m) (take n m)) (get_or-take n m q 0 a.0)
-    ∙ ap (λ (vs : List ℕ). slice_index m q ∷ vs) (sight_is n P ss m a.1)
+pub leaf_view_is : (n : ℕ) (IsOthers : ℕ → Type 0) (part : List Slot) (m : List ℕ) → AllApart n IsOthers part → leaf_view part (gather (privates part) m) (take n m) ≡ gather (map place_of part) m
+leaf_view_is n P [] m a = refl
+leaf_view_is n P (Private p ∷ ss) m a = ap (λ (vs : List ℕ). slice_index m p ∷ vs) (leaf_view_is n P ss m a.2)
+leaf_view_is n P (Shared q ∷ ss) m a =
+    ap (λ v. v ∷ leaf_view ss (gather (privates ss) m) (take n m)) (get_or-take n m q 0 a.0)
+    ∙ ap (λ (vs : List ℕ). slice_index m q ∷ vs) (leaf_view_is n P ss m a.1)
 
 pub own_is : (part : List Slot) (m : List ℕ) → own part (gather (map place_of part) m) ≡ gather (privates part) m
 own_is [] m = refl

@@ -3,7 +3,7 @@ use Rattle.std.proofs.Common.{ℕ, suc, ◌+◌, ◌≡◌, ◌∙◌, ap, sym, 
 use Rattle.std.specs.Prelude.{Result, Ok, Err}
 use Rattle.san_base.specs.declared.ending.Trap.{Trap}
 use Rattle.std.proofs.lemmas.Bool.{eq-eqb, and_parts, and_from}
-use Rattle.san_base.proofs.Bools.{or_none}
+use Rattle.san_base.proofs.Bools.{or_none, and_false}
 use Rattle.san_law.specs.Net.{Done, Faulty, Fresh, Impulse, Local, Renewing, Row, Timer, is_bare, no_timers}
 use Rattle.san_law.specs.Lawful.{IsLate}
 use Rattle.san_law.specs.Activity.{ActKind, Activity, Answer, Effected, Instant, No, Pair, Part, Timed, Traps, Yes, activity_of, case_stream, completed, delay_stream, done_by}
@@ -66,14 +66,10 @@ same_self : (v : List ℕ) → same_list v v ≡ true
 same_self [] = refl
 same_self (x ∷ v) = and_from (nat_eq x x) (same_list v v) (eq-eqb x x refl) (same_self v)
 
-held_none : (h : Bool) → (h && false) ≡ false
-held_none true = refl
-held_none false = refl
-
 kept_same : (v : List ℕ) (t : Timer) (n : ℕ) (pair : Option Pair) (go : Result Clock Trap) → kept_by v v t n pair go ≡ Ok (Some t, n)
 kept_same v t n None go = refl
 kept_same v t n (Some p) go =
-    let e : (t.held && not (same_list v v)) ≡ false = ap (λ b. t.held && not b) (same_self v) ∙ held_none t.held in
+    let e : (t.held && not (same_list v v)) ≡ false = ap (λ b. t.held && not b) (same_self v) ∙ and_false t.held in
     ap (λ b. cond b (again_by (p.reactivation v) (Some t, n) go) (Ok (Some t, n))) e
 
 -- renewed at another time, a clock stays

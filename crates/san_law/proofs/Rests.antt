@@ -10,22 +10,22 @@ use Rattle.san_law.specs.Next.{Stable, next_instant}
 use Rattle.san_law.specs.Renewal.{AllFresh, Due, FaultAt, Renewal, least_from, renewed_at, renewed_from}
 use Rattle.san_law.specs.Step.{End, Ending, Event, Happened, Over, Stepped, Trapped, at_due, at_next, at_rest, complete, count_limit, event_of, fire, fired, step, unless_over, with_local}
 use Rattle.san_law.specs.Block.{before, fault_of, settle}
-use Rattle.san_law.specs.Told.{Told, event_then, told, told_rest, unless_told}
+use Rattle.san_law.specs.Admitted.{Admitted, event_then, admitted, admitted_rest, unless_ended}
 use Rattle.san_law.specs.Piece.{Fire, LeafState, Outcome, Refresh, dropped, fired_outcome, kept, no_leaf, privates, renewed_outcome}
 use Rattle.san_law.specs.Order.{Order, first_true, flag}
 use Rattle.san_law.specs.Reward.{rates_from}
-use Rattle.san_law.specs.Core.{Core, burst_after, leaf_of, rates_of, sight_of, stopped, take_piece, take_told, taken, with_block, with_renewal}
+use Rattle.san_law.specs.Core.{Core, burst_after, leaf_of, rates_of, leaf_view_of, stopped, take_piece, take_admitted, taken, with_block, with_renewal}
 use Rattle.san_law.specs.Lawful.{IsLate, IsLawful}
 use Rattle.san_law.specs.Standing.{Each, Follows, Holds, IsFresh, Serves, Sized, Stands, Upto, Waits, nothing_in, upto, upto_going, upto_stale, upto_unsettled}
 use Rattle.san_law.specs.inner.Least.{Before}
 use Rattle.san_law.proofs.Flags.{by_leaf, first_is, none_is}
 use Rattle.san_law.proofs.Timers.{dropped_late}
 use Rattle.san_law.proofs.Least.{before_late, least_is_before}
-use Rattle.san_law.proofs.Tallies.{counts_later, rates_are, told_at_time}
+use Rattle.san_law.proofs.Tallies.{counts_later, rates_are, admitted_at_time}
 use Rattle.san_law.proofs.Blocks.{Fits, ahead, fits_after, keeps, keeps_more, local_after, one_more, ready_again}
 use Rattle.san_law.proofs.Commits.{Base}
 use Rattle.san_law.proofs.Orders.{due_within, fault_at, nowhere, renewed_all, runs_later, served}
-use Rattle.san_law.proofs.Settles.{block_taken, fits_from, local_from, sight_values, stands_from, told_closes, with_last}
+use Rattle.san_law.proofs.Settles.{block_taken, fits_from, local_from, leaf_view_values, stands_from, admitted_closes, with_last}
 
 step_rest : (net : Net) (s : State) (x : Renewal) → next_instant net s ≡ Stable → renewed_from net s 0 s.rows ≡ x → step net s ≡ at_rest net s x
 unfolding step
@@ -58,12 +58,12 @@ module _ (net : Net) (law : IsLawful net) (opening : State) (past : List Event) 
   waits_here : Waits net s j (leaf_of c j)
   waits_here = upto_here.waits j within (omega arith)
 
-  sight_here : sight_of net c j ≡ local_of net s j
-  sight_here = local_from (sight_of net c j).values (gather (slots_of net j) s.marking) (leaf_of c j).row (row_of s j) (sight_values net c s j st.holds within) waits_here.row
+  leaf_view_here : leaf_view_of net c j ≡ local_of net s j
+  leaf_view_here = local_from (leaf_view_of net c j).values (gather (slots_of net j) s.marking) (leaf_of c j).row (row_of s j) (leaf_view_values net c s j st.holds within) waits_here.row
 
-  same_renewal : net.renewed j c.order.time (leaf_of c j).seen (sight_of net c j) ≡ renewed_at net s j (row_of s j)
-  same_renewal = ap (λ t. net.renewed j t (leaf_of c j).seen (sight_of net c j)) st.holds.time
-      ∙ (ap (net.renewed j s.time (leaf_of c j).seen) sight_here
+  same_renewal : net.renewed j c.order.time (leaf_of c j).seen (leaf_view_of net c j) ≡ renewed_at net s j (row_of s j)
+  same_renewal = ap (λ t. net.renewed j t (leaf_of c j).seen (leaf_view_of net c j)) st.holds.time
+      ∙ (ap (net.renewed j s.time (leaf_of c j).seen) leaf_view_here
       ∙ served net law j s.time (leaf_of c j).seen (gather (slots_of net j) s.stable) (local_of net s j) (subst (Serves net j (leaf_of c j).seen (gather (slots_of net j) s.stable)) waits_here.row waits_here.seen))
 
   faulty : (k : ℕ) (trap : Trap) → renewed_at net s j (row_of s j) ≡ Faulty k trap → Follows net opening past (stopped net c c.order.time (burst_after Refresh c.burst 0) [] (Trapped j k trap))
@@ -80,10 +80,10 @@ module _ (net : Net) (law : IsLawful net) (opening : State) (past : List Event) 
 
   module _ (r : Row) (e : renewed_at net s j (row_of s j) ≡ Fresh r) where
     abbrev new_leaf : LeafState
-    new_leaf = record { values = (leaf_of c j).values; row = r; seen = kept net j (sight_of net c j).values }
+    new_leaf = record { values = (leaf_of c j).values; row = r; seen = kept net j (leaf_view_of net c j).values }
 
     abbrev new_outcome : Outcome
-    new_outcome = renewed_outcome net j (leaf_of c j) (sight_of net c j).values (Fresh r)
+    new_outcome = renewed_outcome net j (leaf_of c j) (leaf_view_of net c j).values (Fresh r)
 
     leaf_same : (i : ℕ) → i ≢ j → slice_index_or (slice_set c.leaves j new_leaf) i no_leaf ≡ leaf_of c i
     leaf_same i n = get_or-set_other c.leaves j i new_leaf no_leaf n
@@ -92,13 +92,13 @@ module _ (net : Net) (law : IsLawful net) (opening : State) (past : List Event) 
     leaf_new = get_or-set_same c.leaves j new_leaf no_leaf (omega (arith, within, st.holds.sized.leaves))
 
     abbrev new_rates : List Rated
-    new_rates = net.rates j (sight_of net c j).values
+    new_rates = net.rates j (leaf_view_of net c j).values
 
     fresh_new : IsFresh net s j new_leaf new_rates
     fresh_new = record {
       quiet = λ t. law.again j s.time t (gather (slots_of net j) s.stable) (local_of net s j) r e;
-      seen = ap (kept net j) (sight_values net c s j st.holds within);
-      rates = ap (net.rates j) (sight_values net c s j st.holds within);
+      seen = ap (kept net j) (leaf_view_values net c s j st.holds within);
+      rates = ap (net.rates j) (leaf_view_values net c s j st.holds within);
     }
 
     stale_same : (i : ℕ) → i ≢ j → flag (slice_set c.order.stale j false) i ≡ flag c.order.stale i
@@ -174,12 +174,12 @@ module _ (net : Net) (law : IsLawful net) (opening : State) (past : List Event) 
           subst (λ n. suc j ≤ n) (sym q) f) (record { long = st.counts.long; sums = st.counts.sums; impulses = st.counts.impulses; early = st.counts.early; timely = st.counts.timely }),
     )
 
-  by_renewed : (x : Renewing) → renewed_at net s j (row_of s j) ≡ x → Follows net opening past (taken net c j Refresh c.order.time (renewed_outcome net j (leaf_of c j) (sight_of net c j).values x))
+  by_renewed : (x : Renewing) → renewed_at net s j (row_of s j) ≡ x → Follows net opening past (taken net c j Refresh c.order.time (renewed_outcome net j (leaf_of c j) (leaf_view_of net c j).values x))
   by_renewed (Fresh r) e = refreshed r e
   by_renewed (Faulty k trap) e = faulty k trap e
 
   pub refresh_follows : Follows net opening past (take_piece net c j Refresh c.order.time)
-  refresh_follows = subst (λ x. Follows net opening past (taken net c j Refresh c.order.time (renewed_outcome net j (leaf_of c j) (sight_of net c j).values x))) (sym same_renewal) (by_renewed (renewed_at net s j (row_of s j)) refl)
+  refresh_follows = subst (λ x. Follows net opening past (taken net c j Refresh c.order.time (renewed_outcome net j (leaf_of c j) (leaf_view_of net c j).values x))) (sym same_renewal) (by_renewed (renewed_at net s j (row_of s j)) refl)
 
 -- the least timer completes
 abbrev rows_of : Core → List Row
@@ -225,8 +225,8 @@ module _ (net : Net) (law : IsLawful net) (opening : State) (past : List Event) 
     row_fired : without_timer (leaf_of c d.leaf).row d.act ≡ row_of at d.leaf
     row_fired = sym (get_or-set_same (rows_of c) d.leaf (without_timer (slice_index_or (rows_of c) d.leaf no_row) d.act) no_row (omega (arith, leaf_within, long_rows)) ∙ ap (λ r. without_timer r d.act) (row_at d.leaf leaf_within))
 
-    local_fired : dropped net (sight_of net c d.leaf) d.act ≡ local_of net at d.leaf
-    local_fired = local_from (sight_of net c d.leaf).values (gather (slots_of net d.leaf) s.marking) (without_timer (leaf_of c d.leaf).row d.act) (row_of at d.leaf) (sight_values net c s d.leaf st.holds leaf_within) row_fired
+    local_fired : dropped net (leaf_view_of net c d.leaf) d.act ≡ local_of net at d.leaf
+    local_fired = local_from (leaf_view_of net c d.leaf).values (gather (slots_of net d.leaf) s.marking) (without_timer (leaf_of c d.leaf).row d.act) (row_of at d.leaf) (leaf_view_values net c s d.leaf st.holds leaf_within) row_fired
 
     sized_fired : Sized net c at
     sized_fired = record {
@@ -288,11 +288,11 @@ module _ (net : Net) (law : IsLawful net) (opening : State) (past : List Event) 
       },
     )
 
-    -- the fired piece, told from a count
+    -- the fired piece, admitted from a count
     abbrev fire_with : ℕ → ℕ → Option Ending → Result Done Trap → Core
     fire_with n count lim o =
         let out = fired_outcome net n d.leaf (leaf_of c d.leaf) d.act o in
-        take_told net c d.time (Fire d.act) (unless_told lim (told_rest net d.time d.leaf count out.fault out.completions)) (λ es. with_block net c d.time (burst_after (Fire d.act) c.burst (length out.completions)) (count + length out.completions) d.leaf es out)
+        take_admitted net c d.time (Fire d.act) (unless_ended lim (admitted_rest net d.time d.leaf count out.fault out.completions)) (λ es. with_block net c d.time (burst_after (Fire d.act) c.burst (length out.completions)) (count + length out.completions) d.leaf es out)
 
     completes : (n : ℕ) (m : Done) → count_limit net s.count ≡ None → net.done d.leaf d.act (local_of net at d.leaf) ≡ Ok m → Follows net opening past (fire_with n s.count None (Ok m))
     completes n m lim done =
@@ -301,12 +301,12 @@ module _ (net : Net) (law : IsLawful net) (opening : State) (past : List Event) 
         let u1 = with_local net at 0 j m.left in
         let go : step net s ≡ (Happened (event_of d.time j d.act m), u1) = step_fires ∙ (ap (λ o. unless_over at o (complete net at 0 j d.act (net.done j d.act (local_of net at j)))) lim ∙ ap (complete net at 0 j d.act) done) in
         let long : length m.left.values ≡ length (slots_of net j) = law.keeps j d.act (local_of net at j) m done ∙ length-map (slots_of net j) (λ p. slice_index s.marking p) in
-        let x : Told = event_then (event_of d.time j d.act m) (told net d.time j 0 (s.count + 1) (fault_of rest.close) rest.completions) in
+        let x : Admitted = event_then (event_of d.time j d.act m) (admitted net d.time j 0 (s.count + 1) (fault_of rest.close) rest.completions) in
         let r = one_more net j d.act 0 (length rest.completions) s at m rest go (ahead net law j n u1 m.left (local_after net j 0 at m.left fits_fired long) (fits_after net j 0 at m.left fits_fired) (ready_again net u1 j refl)) (omega arith) in
         let b = before d.act m rest in
-        block_taken net law opening past c at r.0 j (length rest.completions) (s.count + length b.completions) (local_of net at j) b base_fired (keeps_more net law j d.act (local_of net at j) m rest done (keeps net law j n m.left)) x s st.runs st.holds.count st.counts (refl, told_at_time net d.time j 0 (s.count + 1) (fault_of rest.close) rest.completions) on_time by_horizon (inr present)
+        block_taken net law opening past c at r.0 j (length rest.completions) (s.count + length b.completions) (local_of net at j) b base_fired (keeps_more net law j d.act (local_of net at j) m rest done (keeps net law j n m.left)) x s st.runs st.holds.count st.counts (refl, admitted_at_time net d.time j 0 (s.count + 1) (fault_of rest.close) rest.completions) on_time by_horizon (inr present)
         (Fire d.act) (runs_later net opening s r.0 past c.events x.0 st.runs r.1) r.2
-        (λ e. with_last b j at.last (λ h. refl) (told_closes net d.time j 0 (s.count + 1) rest.close rest.completions e)) refl
+        (λ e. with_last b j at.last (λ h. refl) (admitted_closes net d.time j 0 (s.count + 1) rest.close rest.completions e)) refl
 
     by_done : (n : ℕ) (o : Result Done Trap) → count_limit net s.count ≡ None → net.done d.leaf d.act (local_of net at d.leaf) ≡ o → Follows net opening past (fire_with n s.count None o)
     by_done n (Err trap) lim done = over_at (Trapped d.leaf d.act trap)
@@ -317,7 +317,7 @@ module _ (net : Net) (law : IsLawful net) (opening : State) (past : List Event) 
     by_limit n None lim = by_done n (net.done d.leaf d.act (local_of net at d.leaf)) lim refl
     by_limit n (Some e) lim = over_at e (ap (λ (x : Stepped × State). x.0) (step_fires ∙ ap (λ o. unless_over at o (complete net at 0 d.leaf d.act (net.done d.leaf d.act (local_of net at d.leaf)))) lim))
 
-    pub fire_follows : (n : ℕ) → Follows net opening past (fire_with n c.count (count_limit net c.count) (net.done d.leaf d.act (dropped net (sight_of net c d.leaf) d.act)))
+    pub fire_follows : (n : ℕ) → Follows net opening past (fire_with n c.count (count_limit net c.count) (net.done d.leaf d.act (dropped net (leaf_view_of net c d.leaf) d.act)))
     fire_follows n =
         subst (λ l. Follows net opening past (fire_with n c.count (count_limit net c.count) (net.done d.leaf d.act l))) (sym local_fired)
         (subst (λ k. Follows net opening past (fire_with n k (count_limit net k) (net.done d.leaf d.act (local_of net at d.leaf)))) (sym st.holds.count)

@@ -31,7 +31,7 @@ none_stale : (horizon : ℕ) (o : Order) → need_of horizon o ≡ Finished → 
 unfolding need_of
 none_stale horizon o e = idle_going horizon o o.going e
 
-plus_swap : (a b c : Rated) → plus (plus a b) c ≡ plus (plus a c) b
+pub plus_swap : (a b c : Rated) → plus (plus a b) c ≡ plus (plus a c) b
 plus_swap a b c = sym (plus_last (plus (plus a b) c)) ∙ (plus_four a b c zero_sum ∙ ap (plus (plus a c)) (plus_last b))
 
 module _ (net : Net) (opening : State) (past : List Event) (c : Core) (s : State) (st : Stands net opening past c s) (fresh : first_true 0 c.order.stale ≡ None) (r : ℕ) (is : r < length net.spans) where

@@ -5,8 +5,8 @@ use Rattle.san_law.specs.Net.{Net}
 use Rattle.san_law.specs.Step.{Ending, Event}
 use Rattle.san_law.specs.Order.{Finished, Need, Needs, need_of}
 use Rattle.san_law.specs.Piece.{Fire, Kind, Outcome, Refresh, Settle, piece_of}
-use Rattle.san_law.specs.Told.{Told, told, told_fire}
-use Rattle.san_law.specs.Core.{Core, advance, advance_by, after_pieces, burst_after, leaf_of, take_need, take_told, taken, with_block, with_renewal, stopped}
+use Rattle.san_law.specs.Admitted.{Admitted, admitted, admitted_fire}
+use Rattle.san_law.specs.Core.{Core, advance, advance_by, after_pieces, burst_after, leaf_of, take_need, take_admitted, taken, with_block, with_renewal, stopped}
 use Rattle.san_law.specs.Left.{left}
 use Rattle.san_law.specs.Pieces.{Piece, next_piece, pieces_by, pieces_from}
 use Rattle.san_law.specs.Starts.{AdvanceBefore, AfterBefore, PiecesBefore, TakenBefore, before}
@@ -22,18 +22,18 @@ module _ (net : Net) (past : List Event) (c : Core) (j : ℕ) (time : ℕ) (o : 
   stops : (burst : ℕ) (es : List Event) (e : Ending) → stopped net (before past c) time burst es e ≡ before past (stopped net c time burst es e)
   stops burst es e = ap (with_events (stopped net c time burst es e)) (append_assoc past c.events es)
 
-  blocks_told : (t : Told) (kind : Kind) (burst count : ℕ) → take_told net (before past c) time kind t (λ es. with_block net (before past c) time burst count j es o) ≡ before past (take_told net c time kind t (λ es. with_block net c time burst count j es o))
-  blocks_told (es, Some e) kind burst count = stops (burst_after kind c.burst (length es)) es e
-  blocks_told (es, None) kind burst count = blocks burst count es
+  blocks_admitted : (t : Admitted) (kind : Kind) (burst count : ℕ) → take_admitted net (before past c) time kind t (λ es. with_block net (before past c) time burst count j es o) ≡ before past (take_admitted net c time kind t (λ es. with_block net c time burst count j es o))
+  blocks_admitted (es, Some e) kind burst count = stops (burst_after kind c.burst (length es)) es e
+  blocks_admitted (es, None) kind burst count = blocks burst count es
 
-  renewal_told : (t : Told) → take_told net (before past c) time Refresh t (λ es. with_renewal net (before past c) time j o) ≡ before past (take_told net c time Refresh t (λ es. with_renewal net c time j o))
-  renewal_told (es, Some e) = stops (burst_after Refresh c.burst (length es)) es e
-  renewal_told (es, None) = refl
+  renewal_admitted : (t : Admitted) → take_admitted net (before past c) time Refresh t (λ es. with_renewal net (before past c) time j o) ≡ before past (take_admitted net c time Refresh t (λ es. with_renewal net c time j o))
+  renewal_admitted (es, Some e) = stops (burst_after Refresh c.burst (length es)) es e
+  renewal_admitted (es, None) = refl
 
 pub taken_before : (net : Net) → TakenBefore net
-taken_before net es c j Settle time o = blocks_told net es c j time o (told net time j c.burst c.count o.fault o.completions) Settle (burst_after Settle c.burst (length o.completions)) (c.count + length o.completions)
-taken_before net es c j (Fire k) time o = blocks_told net es c j time o (told_fire net time j c.count o.fault o.completions) (Fire k) (burst_after (Fire k) c.burst (length o.completions)) (c.count + length o.completions)
-taken_before net es c j Refresh time o = renewal_told net es c j time o (told net time j c.burst c.count o.fault o.completions)
+taken_before net es c j Settle time o = blocks_admitted net es c j time o (admitted net time j c.burst c.count o.fault o.completions) Settle (burst_after Settle c.burst (length o.completions)) (c.count + length o.completions)
+taken_before net es c j (Fire k) time o = blocks_admitted net es c j time o (admitted_fire net time j c.count o.fault o.completions) (Fire k) (burst_after (Fire k) c.burst (length o.completions)) (c.count + length o.completions)
+taken_before net es c j Refresh time o = renewal_admitted net es c j time o (admitted net time j c.burst c.count o.fault o.completions)
 
 pub advance_before : (net : Net) → AdvanceBefore net
 unfolding advance

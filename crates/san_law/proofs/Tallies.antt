@@ -9,7 +9,7 @@ use Rattle.san_law.specs.State.{State, gather, place_of}
 use Rattle.san_law.specs.Step.{Ending, Event, limit_at, step}
 use Rattle.san_law.specs.Trajectory.{Runs}
 use Rattle.san_law.specs.Block.{Completion, Fault}
-use Rattle.san_law.specs.Told.{Told, event_by, event_then, told, unless_told}
+use Rattle.san_law.specs.Admitted.{Admitted, event_by, event_then, admitted, unless_ended}
 use Rattle.san_law.specs.Reward.{event_sum, events_sum, marked, plus, rates_from, sum_before, sum_ticks, tick_sum, ticked, zero_sum}
 use Rattle.san_law.specs.Tally.{Tally, going_on, impulses_in, sum_of, sums_from, tally_after}
 use Rattle.san_law.specs.Standing.{AllTo, Counts}
@@ -71,7 +71,7 @@ abbrev pub AllAt : ℕ → List Event → Type 0
 AllAt time [] = Unit {0}
 AllAt time (e ∷ es) = (e.time ≡ time) × AllAt time es
 
-marked_append : (net : Net) (s : State) (xs es : List Event) (b t : ℕ) → AllAt b es → t < b → marked net s (xs ++ es) t ≡ marked net s xs t
+pub marked_append : (net : Net) (s : State) (xs es : List Event) (b t : ℕ) → AllAt b es → t < b → marked net s (xs ++ es) t ≡ marked net s xs t
 marked_append net s [] [] b t all h = refl
 marked_append net s [] (e ∷ es) b t all h = ap (λ q. cond q (marked net (step net s).1 es t) s.marking) (lt-leb e.time t (omega (arith, h, all.0)))
 marked_append net s (x ∷ xs) es b t all h = ap (λ m. cond (nat_le x.time t) m s.marking) (marked_append net (step net s).1 xs es b t all h)
@@ -100,13 +100,13 @@ rates_are net rates m long h = ext_get_or [] rates (rates_from net 0 net.parts m
     h i k ∙ (ap (λ n. net.rates n (gather (map place_of (slice_index_or net.parts i [])) m)) z ∙ sym (rates_at net 0 i net.parts m k)))
 
 -- all events of a piece are at its time
-unless_at : (time : ℕ) (o : Option Ending) (x : Told) → AllAt time x.0 → AllAt time (unless_told o x).0
+unless_at : (time : ℕ) (o : Option Ending) (x : Admitted) → AllAt time x.0 → AllAt time (unless_ended o x).0
 unless_at time None x h = h
 unless_at time (Some e) x h = tt
 
-pub told_at_time : (net : Net) (time j burst count : ℕ) (fault : Option Fault) (cs : List Completion) → AllAt time (told net time j burst count fault cs).0
-told_at_time net time j burst count fault [] = tt
-told_at_time net time j burst count fault (a ∷ cs) = unless_at time (limit_at net burst count) (event_then (event_by time j a) (told net time j (burst + 1) (count + 1) fault cs)) (refl, told_at_time net time j (burst + 1) (count + 1) fault cs)
+pub admitted_at_time : (net : Net) (time j burst count : ℕ) (fault : Option Fault) (cs : List Completion) → AllAt time (admitted net time j burst count fault cs).0
+admitted_at_time net time j burst count fault [] = tt
+admitted_at_time net time j burst count fault (a ∷ cs) = unless_at time (limit_at net burst count) (event_then (event_by time j a) (admitted net time j (burst + 1) (count + 1) fault cs)) (refl, admitted_at_time net time j (burst + 1) (count + 1) fault cs)
 
 to_append : (a b : ℕ) (xs es : List Event) → a ≤ b → AllTo a xs → AllAt b es → AllTo b (xs ++ es)
 to_append a b [] [] h to at = tt
@@ -142,16 +142,16 @@ sum_more net r opening s xs es rates sum a b runs early at is h same =
     now (inr e) t k l = ap (tick_sum net r t) (e ∙ ap (rates_from net 0 net.parts) (sym (marked_end net opening s xs a t early runs k)))
 
 -- sums by number
-sums_long : (f : ℕ → Rated → Rated) (a : ℕ) (ss : List Rated) → length (sums_from f a ss) ≡ length ss
+pub sums_long : (f : ℕ → Rated → Rated) (a : ℕ) (ss : List Rated) → length (sums_from f a ss) ≡ length ss
 sums_long f a [] = refl
 sums_long f a (s ∷ ss) = ap suc (sums_long f (suc a) ss)
 
-sums_at : (f : ℕ → Rated → Rated) (a m i : ℕ) (ss : List Rated) → i < length ss → m ≡ a + i → slice_index_or (sums_from f a ss) i zero_sum ≡ f m (slice_index_or ss i zero_sum)
+pub sums_at : (f : ℕ → Rated → Rated) (a m i : ℕ) (ss : List Rated) → i < length ss → m ≡ a + i → slice_index_or (sums_from f a ss) i zero_sum ≡ f m (slice_index_or ss i zero_sum)
 sums_at f a m i [] h e = absurd (omega (arith, h))
 sums_at f a m zero (s ∷ ss) h e = let k : a ≡ m = omega (arith, e) in ap (λ r. f r s) k
 sums_at f a m (suc i) (s ∷ ss) h e = sums_at f (suc a) m i ss (omega (arith, h)) (omega (arith, e))
 
--- a tally goes on from a to b, and is told the events at b
+-- a tally goes on from a to b, and counts the events at b
 pub counts_more : (net : Net) (opening s : State) (xs es : List Event) (t : Tally) (a b : ℕ) → Runs net opening xs s → Counts net opening xs a t → AllAt b es → a ≤ b → b ≤ net.horizon
     → (a ≡ b) ⊎ (t.rates ≡ rates_from net 0 net.parts s.marking) → impulses_in es ≤ 1024 * length es
     → Counts net opening (xs ++ es) b (tally_after net t a b es)

@@ -2,7 +2,7 @@
 use Rattle.std.specs.Prelude.{ℕ, zero, suc, ◌+◌, List, [], ◌∷◌, ◌++◌, length, Option, Some, None, slice_index_or, slice_set}
 use Rattle.san_law.specs.Net.{Local, Net, Rated}
 use Rattle.san_law.specs.Step.{Ending, Event}
-use Rattle.san_law.specs.Told.{Told, told, told_fire}
+use Rattle.san_law.specs.Admitted.{Admitted, admitted, admitted_fire}
 use Rattle.san_law.specs.Piece.{Fire, Kind, LeafState, Outcome, Refresh, Settle, no_leaf, piece_of, sees}
 use Rattle.san_law.specs.Order.{Finished, Need, Needs, Order, need_of, order_after, order_renewed}
 use Rattle.san_law.specs.Tally.{Tally, tally_after}
@@ -27,8 +27,8 @@ abbrev pub rates_of : Core → ℕ → List Rated
 rates_of c j = slice_index_or c.tally.rates j []
 
 -- what a leaf sees of the committed values
-abbrev pub sight_of : Net → Core → ℕ → Local
-sight_of net c j = sees net j (leaf_of c j) c.shared
+abbrev pub leaf_view_of : Net → Core → ℕ → Local
+leaf_view_of net c j = sees net j (leaf_of c j) c.shared
 
 -- values with these written over
 abbrev pub put : List (ℕ × ℕ) → List ℕ → List ℕ
@@ -90,15 +90,15 @@ burst_after Settle burst n = burst + n
 burst_after Refresh burst n = burst + n
 
 -- where a limit or a trap came the core stops, else the outcome is taken whole
-abbrev pub take_told : Net → Core → ℕ → Kind → Told → (List Event → Core) → Core
-take_told net c time kind (es, Some e) whole = stopped net c time (burst_after kind c.burst (length es)) es e
-take_told net c time kind (es, None) whole = whole es
+abbrev pub take_admitted : Net → Core → ℕ → Kind → Admitted → (List Event → Core) → Core
+take_admitted net c time kind (es, Some e) whole = stopped net c time (burst_after kind c.burst (length es)) es e
+take_admitted net c time kind (es, None) whole = whole es
 
 -- a piece's outcome, taken: its events one by one under the limits; then, where it came to no stop, what it made
 abbrev pub taken : Net → Core → ℕ → Kind → ℕ → Outcome → Core
-taken net c j Settle time o = take_told net c time Settle (told net time j c.burst c.count o.fault o.completions) (λ es. with_block net c time (burst_after Settle c.burst (length o.completions)) (c.count + length o.completions) j es o)
-taken net c j (Fire k) time o = take_told net c time (Fire k) (told_fire net time j c.count o.fault o.completions) (λ es. with_block net c time (burst_after (Fire k) c.burst (length o.completions)) (c.count + length o.completions) j es o)
-taken net c j Refresh time o = take_told net c time Refresh (told net time j c.burst c.count o.fault o.completions) (λ es. with_renewal net c time j o)
+taken net c j Settle time o = take_admitted net c time Settle (admitted net time j c.burst c.count o.fault o.completions) (λ es. with_block net c time (burst_after Settle c.burst (length o.completions)) (c.count + length o.completions) j es o)
+taken net c j (Fire k) time o = take_admitted net c time (Fire k) (admitted_fire net time j c.count o.fault o.completions) (λ es. with_block net c time (burst_after (Fire k) c.burst (length o.completions)) (c.count + length o.completions) j es o)
+taken net c j Refresh time o = take_admitted net c time Refresh (admitted net time j c.burst c.count o.fault o.completions) (λ es. with_renewal net c time j o)
 
 -- a piece of a leaf, made from the committed values and taken
 abbrev pub take_piece : Net → Core → ℕ → Kind → ℕ → Core

@@ -5,7 +5,7 @@ use Rattle.san_law.specs.State.{State, gather, opening_state, part_of, slots_of}
 use Rattle.san_law.specs.Renewal.{AllFresh, Renewal, renewed_at, renewed_then}
 use Rattle.san_law.specs.Step.{End, Ending, Event, Over, step}
 use Rattle.san_law.specs.Trajectory.{Runs, Trajectory, followed_by, trajectory}
-use Rattle.san_law.specs.Piece.{Kind, LeafState, Outcome, Refresh, kept, piece_of, sight}
+use Rattle.san_law.specs.Piece.{Kind, LeafState, Outcome, Refresh, kept, piece_of, leaf_view}
 use Rattle.san_law.specs.Order.{Finished, Needs, flag, need_of}
 use Rattle.san_law.specs.Reward.{worth}
 use Rattle.san_law.specs.Tally.{tally_worth}
@@ -75,7 +75,7 @@ FreshIsUnchanged net = (opening : State) (past : List Event) (c : Core) (s : Sta
 abbrev pub TallyIsWorth : Net → Type 0
 TallyIsWorth net = (opening : State) (past : List Event) (c : Core) → c.stop ≡ None → need_of net.horizon c.order ≡ Finished → Follows net opening past c → (r : ℕ) → r < length net.spans → tally_worth net c.tally c.order.time r ≡ worth net r opening (past ++ c.events)
 
--- a core was told at most 1,024 impulses for each event
+-- a core has counted at most 1,024 impulses for each event
 abbrev pub TallyIsFew : Net → Type 0
 TallyIsFew net = (opening : State) (past : List Event) (c : Core) → Follows net opening past c → c.tally.impulses + 1024 * opening.count ≤ 1024 * c.count
 
@@ -100,9 +100,9 @@ SeenIsKept net = (opening : State) (past : List Event) (c : Core) (s : State) �
     × (upto net c.order ≤ i → Serves net i (leaf_of c i).seen (gather (slots_of net i) s.stable) (leaf_of c i).row))
 
 -- a piece that was made over shared values by which its leaf sees the same is the same piece
-abbrev pub SameSight : Net → Type 0
-SameSight net = (j : ℕ) (kind : Kind) (time : ℕ) (base : LeafState) (a b : List ℕ) → sight (part_of net j) base.values a ≡ sight (part_of net j) base.values b → piece_of net j kind time base a ≡ piece_of net j kind time base b
+abbrev pub SameView : Net → Type 0
+SameView net = (j : ℕ) (kind : Kind) (time : ℕ) (base : LeafState) (a b : List ℕ) → leaf_view (part_of net j) base.values a ≡ leaf_view (part_of net j) base.values b → piece_of net j kind time base a ≡ piece_of net j kind time base b
 
 -- taking a piece that was made ahead, from the leaf's committed state and such shared values, is taking the needed piece
 abbrev pub AheadIsNeeded : Net → Type 0
-AheadIsNeeded net = (c : Core) (j : ℕ) (kind : Kind) (time : ℕ) (shared : List ℕ) → need_of net.horizon c.order ≡ Needs j kind time → sight (part_of net j) (leaf_of c j).values shared ≡ sight (part_of net j) (leaf_of c j).values c.shared → taken net c j kind time (piece_of net j kind time (leaf_of c j) shared) ≡ advance net c
+AheadIsNeeded net = (c : Core) (j : ℕ) (kind : Kind) (time : ℕ) (shared : List ℕ) → need_of net.horizon c.order ≡ Needs j kind time → leaf_view (part_of net j) (leaf_of c j).values shared ≡ leaf_view (part_of net j) (leaf_of c j).values c.shared → taken net c j kind time (piece_of net j kind time (leaf_of c j) shared) ≡ advance net c

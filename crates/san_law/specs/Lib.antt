@@ -5,7 +5,7 @@ pub mod Renewal
 pub mod Step
 pub mod Trajectory
 pub mod Block
-pub mod Told
+pub mod Admitted
 pub mod Piece
 pub mod Order
 pub mod Reward

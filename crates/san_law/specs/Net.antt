@@ -2,7 +2,7 @@
 use Rattle.std.specs.Prelude.{ℕ, ℤ, suc, Bool, true, false, List, [], ◌∷◌, Option, Some, None, Result, nat_lt, if◌then◌else◌, slice_set}
 use Rattle.san_base.specs.declared.ending.Trap.{Trap}
 
--- the value of a reward's term as it is told: a number, or none where it traps or is out of its bounds
+-- the value of a reward's term as it is counted: a number, or none where it traps or is out of its bounds
 abbrev pub Rated : Type 0
 Rated = Option ℤ
 

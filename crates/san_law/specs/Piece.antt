@@ -31,11 +31,11 @@ pub record Outcome : Type 0 where
   pub more : Bool
 
 -- a leaf's values in the order of its places, from its own and the shared ones
-abbrev pub sight : List Slot → List ℕ → List ℕ → List ℕ
-sight [] values shared = []
-sight (Shared q ∷ ss) values shared = slice_index shared q ∷ sight ss values shared
-sight (Private p ∷ ss) [] shared = 0 ∷ sight ss [] shared
-sight (Private p ∷ ss) (v ∷ values) shared = v ∷ sight ss values shared
+abbrev pub leaf_view : List Slot → List ℕ → List ℕ → List ℕ
+leaf_view [] values shared = []
+leaf_view (Shared q ∷ ss) values shared = slice_index shared q ∷ leaf_view ss values shared
+leaf_view (Private p ∷ ss) [] shared = 0 ∷ leaf_view ss [] shared
+leaf_view (Private p ∷ ss) (v ∷ values) shared = v ∷ leaf_view ss values shared
 
 -- the values of the private places among a leaf's values
 abbrev pub own : List Slot → List ℕ → List ℕ
@@ -52,7 +52,7 @@ privates (Shared q ∷ ss) = privates ss
 
 -- a leaf as its piece finds it
 abbrev pub sees : Net → ℕ → LeafState → List ℕ → Local
-sees net j base shared = record { values = sight (part_of net j) base.values shared; row = base.row }
+sees net j base shared = record { values = leaf_view (part_of net j) base.values shared; row = base.row }
 
 -- the shared places that were assigned, with their values, in the order of the leaf's places
 abbrev pub with_write : Bool → ℕ × ℕ → List (ℕ × ℕ) → List (ℕ × ℕ)
@@ -103,4 +103,4 @@ renewed_outcome net j base values (Fresh r) = record { completions = []; writes 
 abbrev pub piece_of : Net → ℕ → Kind → ℕ → LeafState → List ℕ → Outcome
 piece_of net j Settle time base shared = outcome_of net j base.seen (settle net j 64 (sees net j base shared))
 piece_of net j (Fire k) time base shared = fired_outcome net 63 j base k (net.done j k (dropped net (sees net j base shared) k))
-piece_of net j Refresh time base shared = renewed_outcome net j base (sight (part_of net j) base.values shared) (net.renewed j time base.seen (sees net j base shared))
+piece_of net j Refresh time base shared = renewed_outcome net j base (leaf_view (part_of net j) base.values shared) (net.renewed j time base.seen (sees net j base shared))

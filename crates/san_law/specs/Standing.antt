@@ -94,7 +94,7 @@ abbrev pub AllTo : ℕ → List Event → Type 0
 AllTo time [] = Unit {0}
 AllTo time (e ∷ es) = (e.time ≤ time) × AllTo time es
 
--- a tally has counted the ticks before a time and the impulses of these events, and was told at most 1,024 of them for each; no event is later, nor is the time past the horizon
+-- a tally has counted the ticks before a time and the impulses of these events, and at most 1,024 of them for each; no event is later, nor is the time past the horizon
 pub record Counts (net : Net) (opening : State) (es : List Event) (time : ℕ) (tally : Tally) : Type 0 where
   pub long : length tally.sums ≡ length net.spans
   pub sums : (r : ℕ) → r < length net.spans → sum_of tally r ≡ sum_before net r opening es time

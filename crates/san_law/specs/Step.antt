@@ -13,7 +13,7 @@ pub data Ending : Type 0 where
   Events : Ending
   Trapped : (leaf act : ℕ) (trap : Trap) → Ending
 
--- a completion of a leaf's activity: its case, and the impulses that it told
+-- a completion of a leaf's activity: its case, and its impulses
 pub record Event : Type 0 where
   pub time : ℕ
   pub leaf : ℕ

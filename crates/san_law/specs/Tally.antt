@@ -4,7 +4,7 @@ use Rattle.san_law.specs.Net.{Net, Rated}
 use Rattle.san_law.specs.Step.{Event}
 use Rattle.san_law.specs.Reward.{Worth, events_sum, plus, span_of, sum_ticks, tick_sum, worth_by, zero_sum}
 
--- the leaves' present rates, each reward's sum for the ticks before the time and the impulses so far, and how many impulses were told
+-- the leaves' present rates, each reward's sum for the ticks before the time and the impulses so far, and how many impulses were counted
 pub record Tally : Type 0 where
   pub rates : List (List Rated)
   pub sums : List Rated
@@ -19,7 +19,7 @@ abbrev pub sums_from : (ℕ → Rated → Rated) → ℕ → List Rated → List
 sums_from f r [] = []
 sums_from f r (s ∷ ss) = f r s ∷ sums_from f (suc r) ss
 
--- how many impulses events told
+-- how many impulses events have
 abbrev pub impulses_in : List Event → ℕ
 impulses_in [] = 0
 impulses_in (e ∷ es) = length e.impulses + impulses_in es

@@ -5,7 +5,7 @@ ghost use Rattle.san_law.specs.Net.{Net, Row};
 ghost use Rattle.san_law.specs.Lawful.{IsLawful};
 ghost use Rattle.san_law.specs.Left.{PieceLeavesLess};
 ghost use Rattle.san_law.specs.First.{FirstIsBeforeAll, NoneIsFirst};
-ghost use Rattle.san_law.specs.Laws.{PieceKeeps, PiecesKeep, OpensWell, FinishIsEnd, StopIsTrajectory, FinishIsTrajectory, OutcomeIsTrajectory, EventsArePrefix, ResumedFollows, HasTrajectory, RunsWithin, RestIsTrajectory, FreshIsUnchanged, TallyIsFew, TallyIsWorth, PiecesAreNeeded, SameSight, AheadIsNeeded, RowsAreRenewed, SeenIsKept};
+ghost use Rattle.san_law.specs.Laws.{PieceKeeps, PiecesKeep, OpensWell, FinishIsEnd, StopIsTrajectory, FinishIsTrajectory, OutcomeIsTrajectory, EventsArePrefix, ResumedFollows, HasTrajectory, RunsWithin, RestIsTrajectory, FreshIsUnchanged, TallyIsFew, TallyIsWorth, PiecesAreNeeded, SameView, AheadIsNeeded, RowsAreRenewed, SeenIsKept};
 
 /// Taking the needed piece keeps the standing, whether or not it comes to a stop.
 #[tactic(auto, using(crate::proofs::Standing::piece_keeps))]
@@ -73,7 +73,7 @@ pub fn a_piece_leaves_less()
     ensures { (net : Net) → IsLawful net → PieceLeavesLess net }
 {}
 
-/// A core was told at most 1,024 impulses for each of its events.
+/// A core has counted at most 1,024 impulses for each of its events.
 #[tactic(auto, using(crate::proofs::Steps::tally_is_few))]
 pub fn a_tally_is_small()
     ensures { (net : Net) → TallyIsFew net }
@@ -86,9 +86,9 @@ pub fn a_tally_is_the_rewards()
 {}
 
 /// A piece that was made ahead is the needed one, where its leaf saw what the committed values show.
-#[tactic(auto, using(crate::proofs::Ahead::same_sight, crate::proofs::Ahead::ahead_is_needed))]
+#[tactic(auto, using(crate::proofs::Ahead::same_view, crate::proofs::Ahead::ahead_is_needed))]
 pub fn a_piece_ahead_is_the_needed_one()
-    ensures same { (net : Net) → SameSight net }
+    ensures same { (net : Net) → SameView net }
     ensures taken { (net : Net) → AheadIsNeeded net }
 {}
 

@@ -1,4 +1,5 @@
 -- The tokens of words that were written with their blanks are these words.
+use Rattle.san_base.proofs.Bools.{both_true}
 use Rattle.std.proofs.Common.{◌≡◌, ℕ, zero, suc, ◌+◌, ◌-◌, ◌*◌, ◌<◌, ◌≤◌, Bool, true, false, cond, ◌&&◌, List, [], ◌∷◌, ◌++◌, length, map, Result, Ok, Err, Option, Some, None, refl, ap, ◌∙◌, arith}
 use Rattle.std.specs.Prelude.{nat_eq, nat_le}
 use Rattle.std.proofs.lemmas.Bool.Decides.{nat_tests}
@@ -15,7 +16,8 @@ use Rattle.san_lex.specs.declared.sign.Sign.{Sign}
 use Rattle.san_lex.specs.declared.sign.Sign.TheVariants as sign
 use Rattle.san_base.specs.declared.limits.TheConstants.{MAX_NAME_BYTES}
 use Rattle.san_lex.specs.declared.byte.TheConstants.{MAX_NUMBER}
-use Rattle.san_lex.specs.Bytes.{is_letter, is_digit, is_in_name, is_blank, run, first, each}
+use Rattle.san_base.specs.Names.{is_letter, is_digit, is_in_name, each}
+use Rattle.san_lex.specs.Bytes.{is_blank, run, first}
 use Rattle.san_lex.specs.Keywords.{keyword_of}
 use Rattle.san_lex.specs.Lexer.{Word, Number, Name, Fixed, Fault, Front, Token, named, numbered, mark_of, operator_of, single, double, sign_front, front, more, Located, with_token, grown, lex, word_of, heard}
 use Rattle.san_lex.specs.Words.{IsName, IsWord, AreWords}
@@ -176,16 +178,12 @@ apart (Fixed s) d ws = sign_apart s d ws
 
 -- ---- the front of a written word
 
-both : (a b : Bool) → (a && b) ≡ true → (a ≡ true) × (b ≡ true)
-both true b h = (refl, h)
-both false b h = absurd cc
-
 run_all : (p : ℕ → Bool) (us vs : List ℕ) → each p us ≡ true → p (first vs) ≡ false → run p (us ++ vs) ≡ us
 unfolding run
 run_all p [] [] h e = refl
 run_all p [] (v ∷ vs) h e = ap (λ (b : Bool). cond b (v ∷ run p vs) []) e
 run_all p (u ∷ us) vs h e =
-    let two = both (p u) (each p us) h in
+    let two = both_true (p u) (each p us) h in
     ap (λ (b : Bool). cond b (u ∷ run p (us ++ vs)) []) two.0 ∙ ap (λ (xs : List ℕ). u ∷ xs) (run_all p us vs two.1 e)
 
 nones : (x y z : Bool) → cond {A = Option Sign} x None (cond y None (cond z None None)) ≡ None

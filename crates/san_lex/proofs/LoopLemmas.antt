@@ -11,7 +11,8 @@ use Rattle.san_lex.specs.declared.piece.Piece.{Piece}
 use Rattle.san_lex.specs.declared.piece.Piece.TheVariants as piece
 use Rattle.san_base.specs.declared.limits.TheConstants.{MAX_NAME_BYTES}
 use Rattle.san_lex.specs.declared.byte.TheConstants.{MAX_NUMBER}
-use Rattle.san_lex.specs.Bytes.{is_letter, is_digit, is_in_name, is_blank, is_in_line, run, first}
+use Rattle.san_base.specs.Names.{is_letter, is_digit, is_in_name}
+use Rattle.san_lex.specs.Bytes.{is_blank, is_in_line, run, first}
 use Rattle.san_lex.specs.Keywords.{keyword_of}
 use Rattle.san_lex.specs.Lexer.{Word, Number, Name, Fault, Large, Long, Front, Gap, Token, Broken, name_word, named, numbered, single, double, sign_front, front, more, Located, with_token, grown, lex}
 use Rattle.san_lex.specs.Pieces.{kind_word, located}

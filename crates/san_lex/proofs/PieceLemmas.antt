@@ -9,10 +9,10 @@ use Rattle.san_lex.specs.declared.piece.Piece.TheVariants as piece
 use Rattle.std.specs.Prelude.{nat_le}
 use Rattle.san_base.specs.declared.limits.TheConstants.{MAX_NAME_BYTES}
 use Rattle.san_lex.specs.declared.byte.TheConstants.{MAX_NUMBER}
-use Rattle.san_lex.specs.Bytes.{is_digit, is_in_name, first, run}
+use Rattle.san_base.specs.Names.{is_digit, is_in_name, each}
+use Rattle.san_lex.specs.Bytes.{first, run}
 use Rattle.san_lex.specs.Keywords.{keyword_of}
 use Rattle.san_lex.specs.Lexer.{Number, Name, Token, Broken, Large, named, numbered}
-use Rattle.san_lex.specs.Bytes.{each}
 use Rattle.san_lex.specs.inner.Fronts.{NameFront, NumberFront}
 use Rattle.san_lex.proofs.RunLemmas.{run_take}
 use Rattle.san_lex.proofs.WordLemmas.{each_run}

@@ -1,11 +1,12 @@
 -- Going over the bytes that pass a test, one by one.
+use Rattle.san_base.proofs.Bools.{both_true}
 use Rattle.std.proofs.Common.{◌≡◌, ℕ, zero, suc, ◌+◌, ◌<◌, ◌≤◌, Bool, true, false, cond, ◌&&◌, nat_lt, List, [], ◌∷◌, length, drop, get_or, refl, ap, arith, drop-cons, take, ◌*◌}
 use Rattle.std.proofs.lemmas.Bool.Decides.{nat_tests}
 use Rattle.std.specs.Char.{digit_value}
 use Rattle.std.specs.Str.Parse.{digits_value}
 use Rattle.std.proofs.lemmas.Int.Digits.{digits_value_more}
 use Rattle.std.proofs.lemmas.Str.Parse.{digits_value-take-le}
-use Rattle.san_lex.specs.Bytes.{each}
+use Rattle.san_base.specs.Names.{each}
 use Rattle.san_lex.specs.Bytes.{run}
 
 pub digit_test : (b : ℕ) → nat_lt (digit_value b) 10 ≡ (nat_lt 47 b && nat_lt b 58)
@@ -27,14 +28,10 @@ run_ends p [] (suc n) le = refl
 run_ends p (b ∷ bs) zero le = absurd (omega arith)
 run_ends p (b ∷ bs) (suc n) le = run_ends p bs n (omega arith)
 
-both : (a b : Bool) → (a && b) ≡ true → (a ≡ true) × (b ≡ true)
-both true b h = (refl, h)
-both false b h = absurd cc
-
 pub each_at : (p : ℕ → Bool) (bs : List ℕ) (i : ℕ) → each p bs ≡ true → i < length bs → p (get_or bs i 0) ≡ true
 each_at p [] i h lt = absurd (omega arith)
-each_at p (b ∷ bs) zero h lt = (both (p b) (each p bs) h).0
-each_at p (b ∷ bs) (suc i) h lt = each_at p bs i (both (p b) (each p bs) h).1 (omega arith)
+each_at p (b ∷ bs) zero h lt = (both_true (p b) (each p bs) h).0
+each_at p (b ∷ bs) (suc i) h lt = each_at p bs i (both_true (p b) (each p bs) h).1 (omega arith)
 
 pub value_more : (ds : List ℕ) (i : ℕ) → i < length ds → digits_value 10 (take (i + 1) ds) ≡ digits_value 10 (take i ds) * 10 + digit_value (get_or ds i 0)
 value_more ds i lt = digits_value_more 10 ds i lt

@@ -7,10 +7,10 @@ use Rattle.san_lex.specs.declared.keyword.Keyword.{Keyword}
 use Rattle.san_lex.specs.declared.sign.Sign.{Sign}
 use Rattle.san_base.specs.declared.limits.TheConstants.{MAX_NAME_BYTES}
 use Rattle.san_lex.specs.declared.byte.TheConstants.{MAX_NUMBER}
-use Rattle.san_lex.specs.Bytes.{is_letter, is_digit, is_in_name, is_blank, run, first}
+use Rattle.san_base.specs.Names.{is_letter, is_digit, is_in_name, each}
+use Rattle.san_lex.specs.Bytes.{is_blank, run, first}
 use Rattle.san_lex.specs.Keywords.{keyword_of}
 use Rattle.san_lex.specs.Lexer.{Number, Fault, Large, Long, Front, Gap, Token, Broken, name_word, named, numbered, single, double, sign_front, front, more, Located, with_token, grown, lex, word_of}
-use Rattle.san_lex.specs.Bytes.{each}
 use Rattle.san_lex.specs.Words.{IsWord, AreWords}
 
 abbrev FrontFits : Front → Type 0

@@ -9,7 +9,8 @@ use Rattle.san_lex.specs.declared.sign.Sign.{Sign}
 use Rattle.san_lex.specs.declared.sign.Sign.TheVariants as sign
 use Rattle.san_base.specs.declared.limits.TheConstants.{MAX_NAME_BYTES}
 use Rattle.san_lex.specs.declared.byte.TheConstants.{MAX_NUMBER}
-use Rattle.san_lex.specs.Bytes.{is_letter, is_digit, is_in_name, is_blank, is_in_line, run, first}
+use Rattle.san_base.specs.Names.{is_letter, is_digit, is_in_name}
+use Rattle.san_lex.specs.Bytes.{is_blank, is_in_line, run, first}
 use Rattle.san_lex.specs.Keywords.{keyword_of}
 
 -- a token without its offsets

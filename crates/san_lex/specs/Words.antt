@@ -2,7 +2,7 @@
 use Rattle.std.specs.Prelude.{ℕ, ◌≡◌, ◌<◌, ◌≤◌, true, List, [], ◌∷◌, length, None}
 use Rattle.san_base.specs.declared.limits.TheConstants.{MAX_NAME_BYTES}
 use Rattle.san_lex.specs.declared.byte.TheConstants.{MAX_NUMBER}
-use Rattle.san_lex.specs.Bytes.{is_letter, is_in_name, each}
+use Rattle.san_base.specs.Names.{is_letter, is_in_name, each}
 use Rattle.san_lex.specs.Keywords.{keyword_of}
 use Rattle.san_lex.specs.Lexer.{Word, Number, Name, Fixed}
 

@@ -3,7 +3,8 @@
 ghost use Rattle.std.specs.Prelude.{◌≡◌, ◌+◌, ◌<◌, ◌≤◌, ℕ, suc, true, length, take, MatchOption};
 ghost use Rattle.std.specs.Char.{digit_value};
 ghost use Rattle.std.specs.Str.Parse.{digits_value};
-ghost use Rattle.san_lex.specs.Bytes.{is_letter, is_digit, is_in_name, is_blank, is_in_line, run, first, each};
+ghost use Rattle.san_base.specs.Names.{is_letter, is_digit, is_in_name, each};
+ghost use Rattle.san_lex.specs.Bytes.{is_blank, is_in_line, run, first};
 
 pub(crate) fn is_letter(b: u8) -> bool
     ensures { result ≡ is_letter b }

@@ -1,7 +1,8 @@
 //! The longest token at the front of a text.
 
 ghost use Rattle.std.specs.Prelude.{◌≡◌, ℕ, List, true};
-ghost use Rattle.san_lex.specs.Bytes.{is_digit, first};
+ghost use Rattle.san_base.specs.Names.{is_digit};
+ghost use Rattle.san_lex.specs.Bytes.{first};
 ghost use Rattle.san_lex.specs.Lexer.{mark_of, operator_of, single, double, sign_front, named, numbered, front};
 ghost use Rattle.san_lex.specs.inner.Fronts.{piece_front, NameFront, NumberFront, IsFront};
 

@@ -5,7 +5,7 @@ use Rattle.std.proofs.lemmas.Bool.{cases_eq, cases_lt, eq-eqb, ne_eqb}
 use Rattle.std.proofs.lemmas.List.{ext_get_or, get_or-map, get_or_past, get_or-set_same, get_or-set_other, length-map, length-set}
 use Rattle.san_base.proofs.Lists.{drop_whole}
 use Rattle.san_expr.specs.View.{Answers, Reads, plain}
-use Rattle.san_law.proofs.Places.{index_of_is, index_of_slot, scatter_at, scatter_length, scatter_same, scatter_twice}
+use Rattle.san_law.proofs.Places.{index_of_is, index_of_slot, scatter_at, scatter_length, scatter_same, scatter_twice, below_at}
 use Rattle.san_law.specs.Clocks.{same_list}
 use Rattle.san_law.specs.Lawful.{AllBelow, AreDistinct}
 use Rattle.san_law.specs.State.{gather, index_of, or_next, scatter, taken_from}
@@ -23,11 +23,6 @@ pub gathered : (places marking : List ℕ) (k : ℕ) → k < length places → s
 gathered [] marking k h = absurd (omega (arith, h))
 gathered (p ∷ ps) marking zero h = refl
 gathered (p ∷ ps) marking (suc k) h = gathered ps marking k (omega (arith, h))
-
-pub below_at : (places : List ℕ) (n k : ℕ) → AllBelow places n → k < length places → slice_index places k < n
-below_at [] n k b h = absurd (omega (arith, h))
-below_at (p ∷ ps) n zero b h = b.0
-below_at (p ∷ ps) n (suc k) b h = below_at ps n k b.1 (omega (arith, h))
 
 rest_is : (b : Bool) (o : Option ℕ) → or_next b o ≡ None → o ≡ None
 rest_is true o h = cc

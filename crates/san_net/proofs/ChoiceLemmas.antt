@@ -6,7 +6,7 @@ use Rattle.std.proofs.lemmas.Bool.Decides.{leb_tells}
 use Rattle.san_base.specs.Draws.{first_above, pick, weighted_choice}
 use Rattle.san_base.specs.declared.ending.Trap.{Trap}
 use Rattle.san_base.specs.declared.ending.Trap.TheVariants.{Weight}
-use Rattle.san_expr.specs.View.{Sight}
+use Rattle.san_expr.specs.View.{ViewState}
 use Rattle.san_expr.specs.Concerns.{AssignsNothing}
 use Rattle.san_expr.specs.Meaning.{Outcome, Meaning, settled, go_on, joined, then_do}
 use Rattle.san_expr.specs.Meets.{Evaluates}
@@ -271,13 +271,13 @@ module _ (u : ℕ) (cases : List Case) where
       (again (weights_of cases) found_after (λ ys. chosen u (all_natural ys)) (weights_read cases) (λ m ys e. by_all u cases m ys e (all_natural ys) refl))))
 
   -- the sum, and the walk that it calls for
-  pub chooses : (s0 s1 s2 : Sight) (total : Option ℕ) (read : Result (Option ℕ) Trap) (r : Result ℕ Trap) → read ≡ Ok total → Evaluates s0 s1 (total_from (Some 0) cases) read
+  pub chooses : (s0 s1 s2 : ViewState) (total : Option ℕ) (read : Result (Option ℕ) Trap) (r : Result ℕ Trap) → read ≡ Ok total → Evaluates s0 s1 (total_from (Some 0) cases) read
       → Evaluates s1 s2 (by_total u cases total) r → Evaluates s0 s2 (case_of u cases) r
   chooses s0 s1 s2 total read r is p q =
       evaluates_same s0 s2 walked (case_of u cases) r walked_same
       (evaluates_then s0 s1 s2 (total_from (Some 0) cases) (by_total u cases) total r (subst (λ (x : Result (Option ℕ) Trap). Evaluates s0 s1 (total_from (Some 0) cases) x) is p) q)
 
-  pub choice_traps : (s0 s1 : Sight) (t : Trap) (read : Result (Option ℕ) Trap) → read ≡ Err t → Evaluates s0 s1 (total_from (Some 0) cases) read
+  pub choice_traps : (s0 s1 : ViewState) (t : Trap) (read : Result (Option ℕ) Trap) → read ≡ Err t → Evaluates s0 s1 (total_from (Some 0) cases) read
       → Evaluates s0 s1 (case_of u cases) (Err t)
   choice_traps s0 s1 t read is p =
       evaluates_same s0 s1 walked (case_of u cases) (Err t) walked_same

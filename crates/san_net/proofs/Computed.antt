@@ -25,12 +25,13 @@ use Rattle.san_net.specs.Accepted.{IsAccepted, IsAcceptedActivity, IsAcceptedInp
 use Rattle.san_net.specs.Apart.{AreApart}
 use Rattle.san_net.specs.Examples.{four_activities, get_part, getter, leaf_id, letter_a, letter_b, moving, net_to_five, one_case, private, put_and_get, put_part, putter, renewed_putter, row_with, shared, taking, timer}
 use Rattle.san_net.specs.Instants.{Named, instants_of}
-use Rattle.san_net.specs.Laid.{EachPart, IsTagged, IsNetwork, IsSlotted, IsSpan, IsValued, MayBeTold, acts_of, all_places, is_blank}
+use Rattle.san_net.specs.Laid.{EachPart, IsTagged, IsNetwork, IsSlotted, IsSpan, IsValued, TakesImpulses, acts_of, all_places, is_blank}
 use Rattle.san_net.specs.Leaf.{effected_by, enabled_in, first_in, impulses_in, kind_in, slot_in}
 use Rattle.san_net.specs.Lengths.{has_lengths, lengths_step}
-use Rattle.san_net.specs.Names.{is_name}
+use Rattle.san_base.specs.Names.{is_name}
 use Rattle.san_net.specs.Numbering.{ordered, repeated}
 use Rattle.san_base.specs.Rated.{in_bounds}
+use Rattle.san_net.proofs.Counted.{number_value}
 use Rattle.san_net.specs.Tables.{importers_of, leaves_of_acts}
 use Rattle.san_net.specs.declared.activity.Activity.{Activity}
 use Rattle.san_net.specs.declared.activity.Case.{Case}
@@ -232,7 +233,7 @@ is_network = record {
     few = omega arith;
     spans = only (λ (r : Reward). IsSpan r.span) the_reward (omega arith);
     known = each (λ _ p. All (λ r. r < 1) (rewards_of p.atomic)) (All-nil (λ r. r < 1)) (All-nil (λ r. r < 1));
-    told = each (λ _ p. All (λ t. MayBeTold (slice_get (the_reward ∷ []) t.reward)) p.atomic.impulses) (All-nil (λ (t : ImpulseTerm). MayBeTold (slice_get (the_reward ∷ []) t.reward))) (All-nil (λ (t : ImpulseTerm). MayBeTold (slice_get (the_reward ∷ []) t.reward)));
+    intervals = each (λ _ p. All (λ t. TakesImpulses (slice_get (the_reward ∷ []) t.reward)) p.atomic.impulses) (All-nil (λ (t : ImpulseTerm). TakesImpulses (slice_get (the_reward ∷ []) t.reward))) (All-nil (λ (t : ImpulseTerm). TakesImpulses (slice_get (the_reward ∷ []) t.reward)));
   };
   slotted = each (λ _ p. IsSlotted 1 p) put_slots get_slots;
   valued = each (λ _ p. IsValued the_values p) put_values get_values;
@@ -241,10 +242,6 @@ is_network = record {
   shared = refl;
   small = record { leaves = omega arith; places = omega arith; acts = omega arith };
 }
-
-number_value : (n : ℤ) → value_of (Number n) ≡ settled (Ok n)
-unfolding view.roll-Expr denote.Hole.Carrier.roll
-number_value n = fold-roll-Expr (Meaning ℤ) value_step (Expr-F.Number n)
 
 -- the network by what the weight of its cases comes to
 module _ (weight : Meaning ℤ) where

@@ -1,4 +1,5 @@
 -- Which cells enabling and completion have to do with.
+use Rattle.san_base.proofs.Bools.{holds_left, holds_right}
 use Rattle.std.proofs.Common.{ℕ, zero, suc, pos, refl, Bool, true, false, ◌||◌, IsTrue, Ok, List, [], ◌∷◌, map, ◌+ℤ◌, ◌-ℤ◌, Option}
 use Rattle.std.specs.Prelude.{int_lt, not}
 use Rattle.std.proofs.lemmas.Bool.{eq-eqb}
@@ -20,14 +21,6 @@ use Rattle.san_net.specs.declared.activity.Input.{Input}
 use Rattle.san_net.specs.declared.activity.Input.TheVariants as input
 use Rattle.san_net.specs.declared.activity.Output.{Output}
 use Rattle.san_net.specs.declared.activity.Output.TheVariants as output
-
-pub or_left : (a b : Bool) → IsTrue a → IsTrue (a || b)
-or_left true b h = refl
-or_left false b h = absurd cc
-
-pub or_right : (a b : Bool) → IsTrue b → IsTrue (a || b)
-or_right true b h = refl
-or_right false b h = h
 
 pub truth_reads : (e : Expr) → AssignsNothing (truth_of e)
 truth_reads e = nothing_then (value_of e) (λ x. settled (Ok (not (is_zero x)))) (value_reads e) (λ x. nothing_settled (Ok (not (is_zero x))))
@@ -59,8 +52,8 @@ module _ (cells : CellSet) where
   predicates_concern : (inputs : List Input) → IsPartOf (any_of (map predicate_mentions inputs)) cells → Concerns cells (all_hold inputs)
   predicates_concern [] part = concerns_settled cells {T = Bool} (Ok true)
   predicates_concern (i ∷ inputs) part =
-      concerns_then cells (predicate_of i) (and_then (all_hold inputs)) (predicate_concerns i (λ q h. part q (or_left (predicate_mentions i q) (any_of (map predicate_mentions inputs) q) h)))
-      (λ b. by_test b (predicates_concern inputs (λ q h. part q (or_right (predicate_mentions i q) (any_of (map predicate_mentions inputs) q) h))))
+      concerns_then cells (predicate_of i) (and_then (all_hold inputs)) (predicate_concerns i (λ q h. part q (holds_left (predicate_mentions i q) (any_of (map predicate_mentions inputs) q) h)))
+      (λ b. by_test b (predicates_concern inputs (λ q h. part q (holds_right (predicate_mentions i q) (any_of (map predicate_mentions inputs) q) h))))
     where
       by_test : (b : Bool) → Concerns cells (all_hold inputs) → Concerns cells (and_then (all_hold inputs) b)
       by_test true h = h
@@ -73,8 +66,8 @@ module _ (cells : CellSet) where
   weights_concern [] part = concerns_settled cells {T = List (Option ℕ)} (Ok [])
   weights_concern (c ∷ cases) part =
       concerns_then cells (weight_of c) (λ y. then_do (weights_of cases) (λ ys. settled (Ok (y ∷ ys))))
-      (weight_concerns c (λ q h. part q (or_left (case_mentions c q) (any_of (map case_mentions cases) q) (or_left (mentions c.weight q) (any_of (map output_mentions c.outputs) q) h))))
-      (λ y. by_rest y (weights_concern cases (λ q h. part q (or_right (case_mentions c q) (any_of (map case_mentions cases) q) h))))
+      (weight_concerns c (λ q h. part q (holds_left (case_mentions c q) (any_of (map case_mentions cases) q) (holds_left (mentions c.weight q) (any_of (map output_mentions c.outputs) q) h))))
+      (λ y. by_rest y (weights_concern cases (λ q h. part q (holds_right (case_mentions c q) (any_of (map case_mentions cases) q) h))))
     where
       by_rest : (y : Option ℕ) → Concerns cells (weights_of cases) → Concerns cells (then_do (weights_of cases) (λ ys. settled (Ok (y ∷ ys))))
       by_rest y rest = concerns_then cells (weights_of cases) (λ ys. settled (Ok (y ∷ ys))) rest (λ ys. concerns_settled cells (Ok (y ∷ ys)))
@@ -97,15 +90,15 @@ module _ (cells : CellSet) where
   turns_concern : {X : Type 0} (acts : X → Acts) (named : X → CellSet) → ((x : X) → IsPartOf (named x) cells → Concerns cells (acts x)) → (xs : List X) → IsPartOf (any_of (map named xs)) cells → Concerns cells (in_turn (map acts xs))
   turns_concern acts named each [] part = concerns_settled cells (Ok tt)
   turns_concern acts named each (x ∷ xs) part =
-      concerns_then cells (acts x) (λ _. in_turn (map acts xs)) (each x (λ q h. part q (or_left (named x q) (any_of (map named xs) q) h)))
-      (λ _. turns_concern acts named each xs (λ q h. part q (or_right (named x q) (any_of (map named xs) q) h)))
+      concerns_then cells (acts x) (λ _. in_turn (map acts xs)) (each x (λ q h. part q (holds_left (named x q) (any_of (map named xs) q) h)))
+      (λ _. turns_concern acts named each xs (λ q h. part q (holds_right (named x q) (any_of (map named xs) q) h)))
 
   outputs_concern : (cases : List Case) (k : ℕ) → IsPartOf (any_of (map case_mentions cases)) cells → Concerns cells (outputs_of (case_outputs cases k))
   outputs_concern [] k part = concerns_settled cells (Ok tt)
   outputs_concern (c ∷ cases) zero part =
       turns_concern output_of output_mentions output_concerns c.outputs
-      (λ q h. part q (or_left (case_mentions c q) (any_of (map case_mentions cases) q) (or_right (mentions c.weight q) (any_of (map output_mentions c.outputs) q) h)))
-  outputs_concern (c ∷ cases) (suc k) part = outputs_concern cases k (λ q h. part q (or_right (case_mentions c q) (any_of (map case_mentions cases) q) h))
+      (λ q h. part q (holds_left (case_mentions c q) (any_of (map case_mentions cases) q) (holds_right (mentions c.weight q) (any_of (map output_mentions c.outputs) q) h)))
+  outputs_concern (c ∷ cases) (suc k) part = outputs_concern cases k (λ q h. part q (holds_right (case_mentions c q) (any_of (map case_mentions cases) q) h))
 
 pub enabling_concerns : (a : Activity) → Concerns (enabling_mentions a) (enabled_of a)
 enabling_concerns a = predicates_concern (enabling_mentions a) a.inputs (λ q h. h)
@@ -113,8 +106,8 @@ enabling_concerns a = predicates_concern (enabling_mentions a) a.inputs (λ q h.
 pub completion_concerns : (u : ℕ) (a : Activity) → Concerns (completion_mentions a) (completion_of u a)
 completion_concerns u a =
     let cells = completion_mentions a in
-    let inputs : IsPartOf (any_of (map function_mentions a.inputs)) cells = λ q h. or_left (any_of (map function_mentions a.inputs) q) (any_of (map case_mentions a.cases) q) h in
-    let cases : IsPartOf (any_of (map case_mentions a.cases)) cells = λ q h. or_right (any_of (map function_mentions a.inputs) q) (any_of (map case_mentions a.cases) q) h in
+    let inputs : IsPartOf (any_of (map function_mentions a.inputs)) cells = λ q h. holds_left (any_of (map function_mentions a.inputs) q) (any_of (map case_mentions a.cases) q) h in
+    let cases : IsPartOf (any_of (map case_mentions a.cases)) cells = λ q h. holds_right (any_of (map function_mentions a.inputs) q) (any_of (map case_mentions a.cases) q) h in
     concerns_then cells (case_of u a.cases) (λ k. then_do (inputs_of a.inputs) (λ _. then_do (outputs_of (case_outputs a.cases k)) (λ _. settled (Ok k)))) (choice_concerns cells u a.cases cases)
     (λ k. concerns_then cells (inputs_of a.inputs) (λ _. then_do (outputs_of (case_outputs a.cases k)) (λ _. settled (Ok k)))
     (turns_concern cells function_of function_mentions (function_concerns cells) a.inputs inputs)

@@ -4,7 +4,7 @@ use Rattle.std.proofs.Math.Bool.{true≢false}
 use Rattle.std.specs.List.{list_any, position_or_len}
 use Rattle.std.specs.Cmp.{IsEquivalence}
 use Rattle.std.proofs.lemmas.List.Folds.{list_any-append}
-use Rattle.san_net.specs.Numbering.{Differ, firsts, is_often, ordered, number, IsTold, counting}
+use Rattle.san_net.specs.Numbering.{Differ, firsts, is_often, ordered, number, AreRecorded, counting}
 use Rattle.san_net.proofs.RankLemmas.{before, position-here, none-passing, any-filter, respects-often}
 
 module _ {K : Type 0} (E : K → K → Bool) (e : IsEquivalence E) where
@@ -43,6 +43,6 @@ module _ {K : Type 0} (E : K → K → Bool) (e : IsEquivalence E) where
   apart-ordered p r ks a =
       apart-append (filter p ks) (filter (λ k. not (p k)) ks) (apart-filter p ks a) (apart-filter (λ k. not (p k)) ks a) (λ k m. none-passing E e (λ k. not (p k)) (λ x y s. ap not (r x y s)) k (ap not (passes p r k ks m)) ks)
 
-  pub told-range : (xs ks : List K) (told : List ℕ) → IsTold E xs ks told → map (number E xs) (ordered E xs) ≡ counting 0 (length (ordered E xs))
-  told-range xs ks told t =
+  pub recorded-range : (xs ks : List K) (amounts : List ℕ) → AreRecorded E xs ks amounts → map (number E xs) (ordered E xs) ≡ counting 0 (length (ordered E xs))
+  recorded-range xs ks amounts t =
       positions [] (ordered E xs) (ordered E xs) refl (apart-ordered (is_often E xs) (respects-often E e xs) (firsts E xs) (subst (Differ E) t.keys t.differ)) 0 refl

@@ -1,4 +1,5 @@
 -- What stands first in a leaf is what the law asks for.
+use Rattle.san_base.proofs.Bools.{holds_left, holds_right}
 use Rattle.std.proofs.Common.{ℕ, zero, suc, ◌≡◌, ◌∙◌, ap, sym, refl, Bool, true, false, Result, Ok, Err, List, [], ◌∷◌, map}
 use Rattle.std.specs.Prelude.{slice_get, slice_index_or}
 use Rattle.san_base.specs.declared.ending.Trap.{Trap}
@@ -20,7 +21,7 @@ use Rattle.san_net.specs.declared.atomic.ImpulseTerm.{ImpulseTerm}
 use Rattle.san_net.specs.declared.first.FirstInstant.{FirstInstant}
 use Rattle.san_net.specs.declared.first.FirstInstant.TheVariants as first
 use Rattle.san_net.specs.declared.part.Part.{Part}
-use Rattle.san_net.proofs.ConcernLemmas.{enabling_concerns, enabling_reads, or_left, or_right}
+use Rattle.san_net.proofs.ConcernLemmas.{enabling_concerns, enabling_reads}
 
 -- the order of the law is that of the atomic
 placed_same : (k : ℕ) (kind : ActKind) (xs : List (ℕ × ℕ)) → leaf.placed_by k (kind_in kind) xs ≡ instant_before k kind xs
@@ -81,8 +82,8 @@ module _ (cells : CellSet) where
   test_concerns : (acts : List Named) (k : ℕ) → IsPartOf (any_of (map (λ x. enabling_mentions x.1) acts)) cells → Concerns cells (enabled_by (slice_get acts k))
   test_concerns [] k part = concerns_settled cells {T = Bool} (Ok false)
   test_concerns (a ∷ acts) zero part =
-      concerns_more (enabling_mentions a.1) cells _ (λ q h. part q (or_left (enabling_mentions a.1 q) (any_of (map (λ x. enabling_mentions x.1) acts) q) h)) (enabling_concerns a.1)
-  test_concerns (a ∷ acts) (suc k) part = test_concerns acts k (λ q h. part q (or_right (enabling_mentions a.1 q) (any_of (map (λ x. enabling_mentions x.1) acts) q) h))
+      concerns_more (enabling_mentions a.1) cells _ (λ q h. part q (holds_left (enabling_mentions a.1 q) (any_of (map (λ x. enabling_mentions x.1) acts) q) h)) (enabling_concerns a.1)
+  test_concerns (a ∷ acts) (suc k) part = test_concerns acts k (λ q h. part q (holds_right (enabling_mentions a.1 q) (any_of (map (λ x. enabling_mentions x.1) acts) q) h))
 
   firsts_concern : (acts : List Named) (order : List ℕ) → IsPartOf (any_of (map (λ x. enabling_mentions x.1) acts)) cells → Concerns cells (first_among acts order)
   firsts_concern acts [] part = concerns_settled cells (Ok first.None)

@@ -1,4 +1,5 @@
 -- How many leaves have a place.
+use Rattle.san_base.proofs.Bools.{or_none, or_second}
 use Rattle.std.proofs.Common.{ℕ, zero, suc, ◌+◌, ◌≤◌, ◌<◌, ◌≡◌, ◌∙◌, ap, sym, refl, subst, arith, Bool, true, false, not, cond, ◌||◌, min, nat_eq, fold, List, [], ◌∷◌, ◌++◌, length, filter, ◌⊎◌, inl, inr}
 use Rattle.std.specs.List.{count_by}
 use Rattle.std.proofs.Math.Bool.{true≢false}
@@ -13,8 +14,8 @@ use Rattle.san_net.specs.Network.{Network}
 use Rattle.san_net.specs.Numbering.{added, counting, firsts, is_often, repeated}
 use Rattle.san_net.specs.Tables.{importers_of}
 use Rattle.san_net.specs.declared.part.Part.{Part}
-use Rattle.san_net.proofs.LaidLemmas.{has, head_absent, once, or_more, tail_apart}
-use Rattle.san_net.proofs.SeenLemmas.{none_of, or-false}
+use Rattle.san_net.proofs.LaidLemmas.{has, head_absent, once, tail_apart}
+use Rattle.san_net.proofs.SeenLemmas.{none_of}
 
 abbrev Tells : ℕ → ℕ → Type 0
 Tells q x = ((nat_eq q x ≡ true) × (q ≡ x)) ⊎ ((nat_eq q x ≡ false) × (q ≡ x → ⊥))
@@ -23,7 +24,7 @@ module _ (q : ℕ) where
   count_none : (xs : List ℕ) → has q xs ≡ false → count_by (nat_eq q) xs ≡ 0
   count_none [] h = refl
   count_none (x ∷ xs) h =
-      let two = or-false (nat_eq q x) (has q xs) h in
+      let two = or_none (nat_eq q x) (has q xs) h in
       let all = sum_by-cons (λ y. none_of (nat_eq q y)) x xs in
       let here : none_of (nat_eq q x) ≡ 0 = ap none_of two.0 in
       let rest = count_none xs two.1 in
@@ -73,10 +74,10 @@ module _ (q : ℕ) where
       by_pass (inl y) (inl t) rest = (ap p t.1 ∙ y, ap (λ (b : Bool). b || has q xs) t.0)
       by_pass (inl y) (inr t) rest =
           let there : has q (filter p xs) ≡ true = ap (λ (b : Bool). b || has q (filter p xs)) (sym t.0) ∙ ap (λ (b : Bool). has q (cond b (x ∷ filter p xs) (filter p xs))) (sym y) ∙ h in
-          ((rest there).0, or_more (nat_eq q x) (has q xs) (rest there).1)
+          ((rest there).0, or_second (nat_eq q x) (has q xs) (rest there).1)
       by_pass (inr y) t rest =
           let there : has q (filter p xs) ≡ true = ap (λ (b : Bool). has q (cond b (x ∷ filter p xs) (filter p xs))) (sym y) ∙ h in
-          ((rest there).0, or_more (nat_eq q x) (has q xs) (rest there).1)
+          ((rest there).0, or_second (nat_eq q x) (has q xs) (rest there).1)
 
   came_once : (x : ℕ) (ks : List ℕ) (b : Bool) → has q (cond b ks (ks ++ x ∷ [])) ≡ true → (has q ks ≡ true) ⊎ (nat_eq q x ≡ true)
   came_once x ks true h = inl h
@@ -94,12 +95,12 @@ module _ (q : ℕ) where
     where
       by_now : (has q ks ≡ true) ⊎ (nat_eq q x ≡ true) → (has q ks || (nat_eq q x || has q xs)) ≡ true
       by_now (inl t) = ap (λ (b : Bool). b || (nat_eq q x || has q xs)) t
-      by_now (inr t) = or_more (has q ks) (nat_eq q x || has q xs) (ap (λ (b : Bool). b || has q xs) t)
+      by_now (inr t) = or_second (has q ks) (nat_eq q x || has q xs) (ap (λ (b : Bool). b || has q xs) t)
 
       by_rest : (has q (added nat_eq ks x) || has q xs) ≡ true → (has q (added nat_eq ks x) ≡ true) ⊎ (has q (added nat_eq ks x) ≡ false) → (has q (added nat_eq ks x) ≡ true → (has q ks ≡ true) ⊎ (nat_eq q x ≡ true))
           → (has q ks || has q (x ∷ xs)) ≡ true
       by_rest r (inl t) one = by_now (one t)
-      by_rest r (inr t) one = or_more (has q ks) (has q (x ∷ xs)) (or_more (nat_eq q x) (has q xs) (ap (λ (b : Bool). b || has q xs) (sym t) ∙ r))
+      by_rest r (inr t) one = or_second (has q ks) (has q (x ∷ xs)) (or_second (nat_eq q x) (has q xs) (ap (λ (b : Bool). b || has q xs) (sym t) ∙ r))
 
   front_has : (xs ys : List ℕ) (n m : ℕ) → xs ++ ys ≡ counting n m → n ≤ q → q < n + length xs → has q xs ≡ true
   front_has [] ys n m e low high = absurd (omega (arith, low, high))
@@ -114,7 +115,7 @@ module _ (q : ℕ) where
 
       by_test : Tells q x → (n + 1 ≤ q → has q xs ≡ true) → has q (x ∷ xs) ≡ true
       by_test (inl t) rest = ap (λ (b : Bool). b || has q xs) t.0
-      by_test (inr t) rest = or_more (nat_eq q x) (has q xs) (rest (omega (arith, low, here, t.1)))
+      by_test (inr t) rest = or_second (nat_eq q x) (has q xs) (rest (omega (arith, low, here, t.1)))
 
   back_has : (xs ys : List ℕ) (n m : ℕ) → xs ++ ys ≡ counting n m → n + length xs ≤ q → q < n + m → has q ys ≡ true
   back_has [] ys n m e low high = subst (λ (zs : List ℕ). has q zs ≡ true) (sym e) (all_has n m (omega (arith, low)) high)
@@ -125,7 +126,7 @@ module _ (q : ℕ) where
         where
           by_here : Tells q n → (n + 1 ≤ q → has q (counting (n + 1) m) ≡ true) → has q (counting n (suc m)) ≡ true
           by_here (inl t) rest = ap (λ (b : Bool). b || has q (counting (n + 1) m)) t.0
-          by_here (inr t) rest = or_more (nat_eq q n) (has q (counting (n + 1) m)) (rest (omega (arith, low, t.1)))
+          by_here (inr t) rest = or_second (nat_eq q n) (has q (counting (n + 1) m)) (rest (omega (arith, low, t.1)))
   back_has (x ∷ xs) ys n zero e low high = absurd cc
   back_has (x ∷ xs) ys n (suc m) e low high = back_has xs ys (n + 1) m more (omega (arith, low)) (omega (arith, high))
     where

@@ -1,4 +1,5 @@
 -- The places of a network lie apart, as the law asks.
+use Rattle.san_base.proofs.Bools.{or_none, or_second}
 use Rattle.std.proofs.Common.{ℕ, zero, suc, ◌+◌, ◌≤◌, ◌<◌, ◌≡◌, ◌≢◌, ◌∙◌, ap, sym, refl, subst, arith, Bool, true, false, not, cond, ◌||◌, min, nat_eq, nat_le, fold, Some, None, List, [], ◌∷◌, ◌++◌, map, length, filter, ◌⊎◌, inl, inr}
 use Rattle.std.specs.Prelude.{All, slice_get, slice_index_or}
 use Rattle.std.specs.List.{count_by, list_any}
@@ -25,14 +26,10 @@ use Rattle.san_net.specs.declared.part.Part.{Part}
 use Rattle.san_net.specs.declared.part.Slot.{Slot}
 use Rattle.san_net.specs.declared.part.Slot.TheVariants.{Private, Shared}
 use Rattle.san_net.proofs.MadeLemmas.{all_made, all_first, all_rest}
-use Rattle.san_net.proofs.SeenLemmas.{none_of, or-false}
+use Rattle.san_net.proofs.SeenLemmas.{none_of}
 
 abbrev pub has : ℕ → List ℕ → Bool
 has q xs = list_any (nat_eq q) xs
-
-pub or_more : (a b : Bool) → b ≡ true → (a || b) ≡ true
-or_more true b h = refl
-or_more false b h = h
 
 -- an item that is there stays, and one that comes is there
 module _ (q : ℕ) where
@@ -46,7 +43,7 @@ module _ (q : ℕ) where
 
   comes_once : (x : ℕ) (ks : List ℕ) → q ≡ x → (b : Bool) → has x ks ≡ b → has q (cond b ks (ks ++ x ∷ [])) ≡ true
   comes_once x ks e true h = ap (λ (n : ℕ). has n ks) e ∙ h
-  comes_once x ks e false h = list_any-append (nat_eq q) ks (x ∷ []) ∙ or_more (has q ks) (nat_eq q x || false) (ap (λ (b : Bool). b || false) (eq-eqb q x e))
+  comes_once x ks e false h = list_any-append (nat_eq q) ks (x ∷ []) ∙ or_second (has q ks) (nat_eq q x || false) (ap (λ (b : Bool). b || false) (eq-eqb q x e))
 
   comes : (xs ks : List ℕ) → has q xs ≡ true → has q (fold (added nat_eq) ks xs) ≡ true
   comes [] ks h = absurd (true≢false (sym h))
@@ -61,7 +58,7 @@ module _ (q : ℕ) where
   passes_filter p (x ∷ xs) pass h = by_test (eqb_tells q x) (λ m. passes_filter p xs pass m)
     where
       by_pass : (b : Bool) → has q (filter p xs) ≡ true → has q (cond b (x ∷ filter p xs) (filter p xs)) ≡ true
-      by_pass true r = or_more (nat_eq q x) (has q (filter p xs)) r
+      by_pass true r = or_second (nat_eq q x) (has q (filter p xs)) r
       by_pass false r = r
 
       by_test : ((nat_eq q x ≡ true) × (q ≡ x)) ⊎ ((nat_eq q x ≡ false) × (q ≡ x → ⊥)) → (has q xs ≡ true → has q (filter p xs) ≡ true) → has q (filter p (x ∷ xs)) ≡ true
@@ -138,7 +135,7 @@ module _ (q : ℕ) where
   has_all (r ∷ parts) zero p is h =
       let same : r ≡ p = cc in
       list_any-append (nat_eq q) (places_of r) (all_places parts) ∙ ap (λ (b : Bool). b || has q (all_places parts)) (ap (λ (x : Part). has q (places_of x)) same ∙ h)
-  has_all (r ∷ parts) (suc i) p is h = list_any-append (nat_eq q) (places_of r) (all_places parts) ∙ or_more (has q (places_of r)) (has q (all_places parts)) (has_all parts i p is h)
+  has_all (r ∷ parts) (suc i) p is h = list_any-append (nat_eq q) (places_of r) (all_places parts) ∙ or_second (has q (places_of r)) (has q (all_places parts)) (has_all parts i p is h)
 
   -- a private place is in no other leaf
   only_here : (n : Network) → IsNetwork n → (i j : ℕ) (p s : Part) → (j ≢ i) → slice_get n.parts i ≡ Some p → slice_get n.parts j ≡ Some s → has q (places_of p) ≡ true → n.shared ≤ q → has q (places_of s) ≡ false
@@ -155,14 +152,14 @@ module _ (q : ℕ) where
 index_none : (q : ℕ) (xs : List ℕ) → has q xs ≡ false → index_of q xs ≡ None
 index_none q [] h = refl
 index_none q (x ∷ xs) h =
-    let two = or-false (nat_eq q x) (has q xs) h in
+    let two = or_none (nat_eq q x) (has q xs) h in
     ap (λ (b : Bool). state.or_next b (index_of q xs)) two.0 ∙ ap (state.or_next false) (index_none q xs two.1)
 
-place_in : (s : Slot) → state.place_of (slot_in s) ≡ place_of s
+pub place_in : (s : Slot) → state.place_of (slot_in s) ≡ place_of s
 place_in (Private place) = refl
 place_in (Shared place) = refl
 
-places_in : (slots : List Slot) → map state.place_of (map slot_in slots) ≡ map place_of slots
+pub places_in : (slots : List Slot) → map state.place_of (map slot_in slots) ≡ map place_of slots
 places_in [] = refl
 places_in (s ∷ slots) = ap (λ (x : ℕ). x ∷ map state.place_of (map slot_in slots)) (place_in s) ∙ ap (λ (xs : List ℕ). place_of s ∷ xs) (places_in slots)
 
@@ -181,7 +178,7 @@ found_at q (x ∷ xs) h = by_test (eqb_tells q x) (λ r. found_at q xs r)
 there : (xs : List ℕ) (i x : ℕ) → slice_get xs i ≡ Some x → has x xs ≡ true
 there [] i x is = absurd cc
 there (y ∷ xs) zero x is = let same : x ≡ y = cc in ap (λ (b : Bool). b || has x xs) (eq-eqb x y same)
-there (y ∷ xs) (suc i) x is = or_more (nat_eq x y) (has x xs) (there xs i x is)
+there (y ∷ xs) (suc i) x is = or_second (nat_eq x y) (has x xs) (there xs i x is)
 
 pub head_absent : (x : ℕ) (xs : List ℕ) → AreApart (x ∷ xs) → has x xs ≡ false
 head_absent x xs h = by_test (cases_Bool (has x xs))
@@ -236,11 +233,11 @@ module _ (n : Network) (net_is : IsNetwork n) where
       let here = all_first (IsTagged n.shared) (Private place) slots tagged in (
         here,
         away place.0 (ap (λ (b : Bool). b || has place.0 (map place_of slots)) (eq-eqb place.0 place.0 refl)) here,
-        all_apart p Others slots (all_rest (IsTagged n.shared) (Private place) slots tagged) (λ q h. away q (or_more (nat_eq q place.0) (has q (map place_of slots)) h)),
+        all_apart p Others slots (all_rest (IsTagged n.shared) (Private place) slots tagged) (λ q h. away q (or_second (nat_eq q place.0) (has q (map place_of slots)) h)),
       )
   all_apart p Others (Shared place ∷ slots) tagged away = (
     all_first (IsTagged n.shared) (Shared place) slots tagged,
-    all_apart p Others slots (all_rest (IsTagged n.shared) (Shared place) slots tagged) (λ q h. away q (or_more (nat_eq q place.0) (has q (map place_of slots)) h)),
+    all_apart p Others slots (all_rest (IsTagged n.shared) (Shared place) slots tagged) (λ q h. away q (or_second (nat_eq q place.0) (has q (map place_of slots)) h)),
   )
 
   module _ (draw : ℕ → ℕ → ℕ) (limits : law.Limits) where

@@ -121,8 +121,8 @@ leaves_made (p ∷ parts) each (suc j) = leaves_made parts (λ n q is. each (suc
 part_made : (p : Part) (rewards : ℕ) → IsAccepted p.atomic → rewards ≤ 64 → All (λ r. r < rewards) (rewards_of p.atomic) → LeafMade (leaf_of p)
 part_made p rewards a few known k =
     let all = few_in_all rewards (rewards_of p.atomic) known a.terms in
-    let told = length-map p.atomic.impulses (λ (t : ImpulseTerm). t.reward) in
-    activities_made p.atomic.impulses (omega (arith, all, few, told, parted)) 0 p.atomic.acts k
+    let as_many = length-map p.atomic.impulses (λ (t : ImpulseTerm). t.reward) in
+    activities_made p.atomic.impulses (omega (arith, all, few, as_many, parted)) 0 p.atomic.acts k
   where
     parted : length (rewards_of p.atomic) ≡ length (map (λ t. t.reward) p.atomic.rates) + length (map (λ t. t.reward) p.atomic.impulses)
     parted = length-append (map (λ t. t.reward) p.atomic.rates) (map (λ t. t.reward) p.atomic.impulses)

@@ -1,4 +1,5 @@
 -- The numbers of `ranked` are the positions in `ordered`.
+use Rattle.san_base.proofs.Bools.{or_none}
 use Rattle.std.proofs.Common.{◌≡◌, ℕ, suc, ◌+◌, Bool, true, false, not, cond, ◌||◌, List, [], ◌∷◌, ◌++◌, length, refl, ap, sym, ◌∙◌, subst, arith, min, map, inl, inr, ◌⊎◌, filter, nat_eq, append_assoc, length-append}
 use Rattle.std.proofs.Math.Bool.{true≢false}
 use Rattle.std.specs.List.{list_any, position_or_len}
@@ -6,8 +7,8 @@ use Rattle.std.specs.Cmp.{IsEquivalence}
 use Rattle.std.proofs.lemmas.Bool.{cases_Bool}
 use Rattle.std.proofs.lemmas.List.Folds.{list_any-append}
 use Rattle.std.proofs.lemmas.List.Elements.{filter-append}
-use Rattle.san_net.specs.Numbering.{often, is_often, ordered, Differ, IsTold, ranked}
-use Rattle.san_net.proofs.SeenLemmas.{or-false, count-same}
+use Rattle.san_net.specs.Numbering.{often, is_often, ordered, Differ, AreRecorded, ranked}
+use Rattle.san_net.proofs.SeenLemmas.{count-same}
 
 abbrev against : {K : Type 0} → (K → Bool) → K → Bool
 against p k = not (p k)
@@ -15,7 +16,7 @@ against p k = not (p k)
 pub any-filter : {K : Type 0} (t p : K → Bool) (xs : List K) → list_any t xs ≡ false → list_any t (filter p xs) ≡ false
 any-filter t p [] n = refl
 any-filter t p (x ∷ xs) n =
-    let two = or-false (t x) (list_any t xs) n in
+    let two = or_none (t x) (list_any t xs) n in
     kept (p x) (or-both (t x) (list_any t (filter p xs)) two.0 (any-filter t p xs two.1)) (any-filter t p xs two.1)
   where
     or-both : (a b : Bool) → a ≡ false → b ≡ false → (a || b) ≡ false
@@ -29,7 +30,7 @@ module _ {K : Type 0} (E : K → K → Bool) (e : IsEquivalence E) where
   pub position-here : (k : K) (xs ys : List K) → list_any (E k) xs ≡ false → position_or_len (E k) (xs ++ k ∷ ys) ≡ length xs
   position-here k [] ys n = ap (λ b. cond (not b) (1 + position_or_len (E k) ys) 0) (e.refl k)
   position-here k (x ∷ xs) ys n =
-      let two = or-false (E k x) (list_any (E k) xs) n in
+      let two = or_none (E k x) (list_any (E k) xs) n in
       let rest = position-here k xs ys two.1 in
       let up : 1 + position_or_len (E k) (xs ++ k ∷ ys) ≡ suc (length xs) = omega (arith, rest) in
       ap (λ b. cond (not b) (1 + position_or_len (E k) (xs ++ k ∷ ys)) 0) two.0 ∙ up
@@ -37,8 +38,8 @@ module _ {K : Type 0} (E : K → K → Bool) (e : IsEquivalence E) where
   pub before : (done : List K) (k : K) (ks : List K) → Differ E (done ++ k ∷ ks) → list_any (E k) done ≡ false
   before [] k ks a = refl
   before (d ∷ done) k ks a =
-      let two = or-false (list_any (E d) done) (E d k || list_any (E d) ks) (sym (list_any-append (E d) done (k ∷ ks)) ∙ a.0) in
-      let one = or-false (E d k) (list_any (E d) ks) two.1 in
+      let two = or_none (list_any (E d) done) (E d k || list_any (E d) ks) (sym (list_any-append (E d) done (k ∷ ks)) ∙ a.0) in
+      let one = or_none (E d k) (list_any (E d) ks) two.1 in
       ap (λ b. b || list_any (E k) done) (e.symm k d ∙ one.0) ∙ before done k ks a.1
 
   pub none-passing : (p : K → Bool) → ((x y : K) → E x y ≡ true → p x ≡ p y) → (k : K) → p k ≡ false → (xs : List K) → list_any (E k) (filter p xs) ≡ false
@@ -92,8 +93,8 @@ module _ {K : Type 0} (E : K → K → Bool) (e : IsEquivalence E) where
   pub respects-often : (xs : List K) (x y : K) → E x y ≡ true → is_often E xs x ≡ is_often E xs y
   respects-often xs x y s = ap (λ n. nat_eq (min n 2) 2) (count-same E e xs x y s)
 
-  pub told-ranked : (xs ks : List K) (told : List ℕ) → IsTold E xs ks told → ranked 0 (length (filter (is_often E xs) ks)) told ≡ map (λ k. position_or_len (E k) (ordered E xs)) ks
-  told-ranked xs ks told t =
+  pub recorded-ranked : (xs ks : List K) (amounts : List ℕ) → AreRecorded E xs ks amounts → ranked 0 (length (filter (is_often E xs) ks)) amounts ≡ map (λ k. position_or_len (E k) (ordered E xs)) ks
+  recorded-ranked xs ks amounts t =
       let r : (x y : K) → E x y ≡ true → twice (often E xs) x ≡ twice (often E xs) y = λ x y s. ap (λ n. nat_eq (min n 2) 2) (count-same E e xs x y s) in
       let q : length (filter (is_often E xs) ks) ≡ length (filter (is_often E xs) ks) + 0 = omega arith in
       ap (ranked 0 (length (filter (is_often E xs) ks))) t.counts ∙ ranked-places (often E xs) r [] ks ks refl t.differ 0 (length (filter (is_often E xs) ks)) refl q ∙ ap (λ all. map (place (is_often E xs) all) ks) t.keys

@@ -1,4 +1,5 @@
 -- Numbers in place of items: the order of the numbers is the numbers of the order.
+use Rattle.san_base.proofs.Bools.{or_right}
 use Rattle.std.proofs.Common.{◌≡◌, ℕ, Bool, true, false, not, cond, ◌||◌, List, [], ◌∷◌, ◌++◌, refl, ap, sym, ◌∙◌, subst, arith, min, map, inl, inr, ◌⊎◌, filter, nat_eq, fold}
 use Rattle.std.specs.List.{list_any, count_by}
 use Rattle.std.specs.Cmp.{IsEquivalence}
@@ -8,10 +9,6 @@ use Rattle.std.proofs.lemmas.List.Sums.{sum_by-cons}
 use Rattle.san_net.specs.Numbering.{added, firsts, is_often, ordered}
 use Rattle.san_net.proofs.SeenLemmas.{none_of}
 
-or-right : (b : Bool) → (b || true) ≡ true
-or-right true = refl
-or-right false = refl
-
 module _ {K : Type 0} (E : K → K → Bool) (e : IsEquivalence E) (F : ℕ → ℕ → Bool) (f : K → ℕ) (Has : K → Type 0) (tell : (h k : K) → Has h → Has k → F (f h) (f k) ≡ E h k) where
   abbrev pub AllHave : List K → Type 0
   AllHave [] = Unit {0}
@@ -19,7 +16,7 @@ module _ {K : Type 0} (E : K → K → Bool) (e : IsEquivalence E) (F : ℕ → 
 
   pub have-all : (xs : List K) → ((h : K) → list_any (E h) xs ≡ true → Has h) → AllHave xs
   have-all [] all = tt
-  have-all (x ∷ xs) all = (all x (ap (λ b. b || list_any (E x) xs) (e.refl x)), have-all xs (λ k m. all k (ap (λ b. E k x || b) m ∙ or-right (E k x))))
+  have-all (x ∷ xs) all = (all x (ap (λ b. b || list_any (E x) xs) (e.refl x)), have-all xs (λ k m. all k (ap (λ b. E k x || b) m ∙ or_right (E k x))))
 
   have-push : (xs : List K) (x : K) → AllHave xs → Has x → AllHave (xs ++ x ∷ [])
   have-push [] x a h = (h, tt)

@@ -7,7 +7,7 @@ use Rattle.std.proofs.lemmas.Bool.{cases_Bool}
 use Rattle.std.proofs.lemmas.Bool.Decides.{eqb_tells}
 use Rattle.std.proofs.lemmas.List.Folds.{list_any-append}
 use Rattle.std.proofs.lemmas.List.Sums.{sum_by-append, sum_by-cons}
-use Rattle.san_net.specs.Numbering.{firsts, is_often, ordered, Differ, IsTold, all_of, EachDiffers, number}
+use Rattle.san_net.specs.Numbering.{firsts, is_often, ordered, Differ, AreRecorded, all_of, EachDiffers, number}
 use Rattle.san_net.proofs.SeenLemmas.{none_of, found-same, count-none}
 
 any-split : {K : Type 0} (t p : K → Bool) (xs : List K) → list_any t (filter p xs ++ filter (λ k. not (p k)) xs) ≡ list_any t xs
@@ -120,7 +120,7 @@ module _ {K : Type 0} (E : K → K → Bool) (e : IsEquivalence E) where
       or-true true = refl
       or-true false = refl
 
-  pub told-importers : (rows : List (List K)) (ks : List K) (told : List ℕ) → EachDiffers E rows → IsTold E (all_of rows) ks told → (k : K) → list_any (E k) (all_of rows) ≡ true → count_by (λ row. list_any (nat_eq (number E (all_of rows) k)) (map (number E (all_of rows)) row)) rows ≡ count_by (E k) (all_of rows)
-  told-importers rows ks told a t k h =
+  pub recorded-importers : (rows : List (List K)) (ks : List K) (amounts : List ℕ) → EachDiffers E rows → AreRecorded E (all_of rows) ks amounts → (k : K) → list_any (E k) (all_of rows) ≡ true → count_by (λ row. list_any (nat_eq (number E (all_of rows) k)) (map (number E (all_of rows)) row)) rows ≡ count_by (E k) (all_of rows)
+  recorded-importers rows ks amounts a t k h =
       let there : (j : K) → list_any (E j) (all_of rows) ≡ true → list_any (E j) (ordered E (all_of rows)) ≡ true = λ j s. any-split (E j) (is_often E (all_of rows)) (firsts E (all_of rows)) ∙ ap (list_any (E j)) (sym t.keys) ∙ t.all j ∙ s in
       importers-count (ordered E (all_of rows)) rows rows k (there k h) there ∙ sym (count-rows k rows a)

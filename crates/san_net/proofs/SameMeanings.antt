@@ -1,7 +1,9 @@
 -- Meanings that give equal outcomes, cell by cell.
+use Rattle.san_base.proofs.Bools.{or_assoc}
 use Rattle.std.proofs.Common.{ℕ, ◌≡◌, ◌∙◌, ap, sym, refl, subst, Bool, true, false, not, ◌||◌, ◌&&◌, Result, Ok, Err, List}
 use Rattle.san_base.specs.declared.ending.Trap.{Trap}
-use Rattle.san_expr.specs.View.{Sight, is_known}
+use Rattle.san_expr.proofs.ComposeLemmas.{looks_both}
+use Rattle.san_expr.specs.View.{ViewState, is_known}
 use Rattle.san_expr.specs.Concerns.{AssignsNothing}
 use Rattle.san_expr.specs.Meaning.{Outcome, Meaning, settled, go_on, joined, then_do}
 use Rattle.san_expr.specs.Meets.{Evaluates, Meets, marking_of}
@@ -25,16 +27,6 @@ same_trans a b c h k m = record {
   looks = λ p. (h m).looks p ∙ (k m).looks p;
   sets = λ p. (h m).sets p ∙ (k m).sets p;
 }
-
-looks_both : (f o a s b : Bool) → ((f || (not o && a)) || (not (o || s) && b)) ≡ (f || (not o && (a || (not s && b))))
-looks_both true o a s b = refl
-looks_both false true a s b = refl
-looks_both false false true s b = refl
-looks_both false false false s b = refl
-
-or_both : (a b c : Bool) → ((a || b) || c) ≡ (a || (b || c))
-or_both true b c = refl
-or_both false b c = refl
 
 module _ {T U : Type 0} where
   -- the same first, then the same next
@@ -110,7 +102,7 @@ module _ {S T U : Type 0} where
     answer = refl;
     left = refl;
     looks = λ p. looks_both (A.looks p) (A.sets p) (B.looks p) (B.sets p) ((g y B.left).looks p);
-    sets = λ p. or_both (A.sets p) (B.sets p) ((g y B.left).sets p);
+    sets = λ p. or_assoc (A.sets p) (B.sets p) ((g y B.left).sets p);
   }
 
   two_by : (f : S → Meaning T) (g : T → Meaning U) (A : Outcome S) (r : Result S Trap)
@@ -123,7 +115,7 @@ module _ {S T U : Type 0} where
   grouped_same a f g m = two_by f g (a m) (a m).answer
 
 -- a call that does what one meaning says does what the same says
-pub meets_same : {T : Type 0} (s0 s1 : Sight) (a b : Meaning T) (r : Result T Trap) → Same a b → Meets s0 s1 a r → Meets s0 s1 b r
+pub meets_same : {T : Type 0} (s0 s1 : ViewState) (a b : Meaning T) (r : Result T Trap) → Same a b → Meets s0 s1 a r → Meets s0 s1 b r
 meets_same s0 s1 a b r h p =
     let is : (m : List ℕ) → AreSame (a (marking_of s0 m)) (b (marking_of s0 m)) = λ m. h (marking_of s0 m) in
     record {
@@ -139,5 +131,5 @@ meets_same s0 s1 a b r h p =
       kept = p.kept;
     }
 
-pub evaluates_same : {T : Type 0} (s0 s1 : Sight) (a b : Meaning T) (r : Result T Trap) → Same a b → Evaluates s0 s1 a r → Evaluates s0 s1 b r
+pub evaluates_same : {T : Type 0} (s0 s1 : ViewState) (a b : Meaning T) (r : Result T Trap) → Same a b → Evaluates s0 s1 a r → Evaluates s0 s1 b r
 evaluates_same s0 s1 a b r h p = record { meets = meets_same s0 s1 a b r h p.meets; own = p.own }

@@ -1,4 +1,5 @@
 -- What one more item changes.
+use Rattle.san_base.proofs.Bools.{or_none}
 use Rattle.std.proofs.Common.{◌≡◌, ℕ, suc, ◌+◌, Bool, true, false, not, cond, ◌||◌, List, [], ◌∷◌, ◌++◌, refl, ap, sym, ◌∙◌, subst, arith, min, map, inl, inr, ◌⊎◌, set, get_or}
 use Rattle.std.proofs.Math.Bool.{true≢false}
 use Rattle.std.specs.List.{list_any, count_by, position_or_len}
@@ -7,14 +8,10 @@ use Rattle.std.proofs.lemmas.Bool.{cases_Bool}
 use Rattle.std.proofs.lemmas.List.Folds.{list_any-append}
 use Rattle.std.proofs.lemmas.List.Sums.{fold-append, sum_by-append, sum_by-cons}
 use Rattle.std.proofs.lemmas.List.{map-append}
-use Rattle.san_net.specs.Numbering.{added, firsts, often, Differ, IsTold}
+use Rattle.san_net.specs.Numbering.{added, firsts, often, Differ, AreRecorded}
 
 abbrev pub none_of : Bool → ℕ
 none_of b = cond b 1 0
-
-pub or-false : (a b : Bool) → (a || b) ≡ false → (a ≡ false) × (b ≡ false)
-or-false true b h = absurd (true≢false h)
-or-false false b h = (refl, h)
 
 pub list_any-map : {X Y : Type 0} (f : X → Y) (p : Y → Bool) (xs : List X) → list_any p (map f xs) ≡ list_any (λ x. p (f x)) xs
 list_any-map f p [] = refl
@@ -36,14 +33,14 @@ module _ {K : Type 0} (E : K → K → Bool) (e : IsEquivalence E) where
   apart-push : (ks : List K) (h : K) → Differ E ks → list_any (E h) ks ≡ false → Differ E (ks ++ h ∷ [])
   apart-push [] h a n = (refl, tt)
   apart-push (k ∷ ks) h a n =
-      let two = or-false (E h k) (list_any (E h) ks) n in
+      let two = or_none (E h k) (list_any (E h) ks) n in
       (list_any-append (E k) ks (h ∷ []) ∙ ap (λ b. b || (E k h || false)) a.0 ∙ ap (λ b. b || false) (e.symm k h ∙ two.0), apart-push ks h a.1 two.1)
 
   -- a change of the value at the item equal to h alone
   unmarked : (f g : K → ℕ) (h : K) → ((k : K) → E h k ≡ false → g k ≡ f k) → (ks : List K) → list_any (E h) ks ≡ false → map g ks ≡ map f ks
   unmarked f g h miss [] n = refl
   unmarked f g h miss (k ∷ ks) n =
-      let two = or-false (E h k) (list_any (E h) ks) n in
+      let two = or_none (E h k) (list_any (E h) ks) n in
       ap (λ x. x ∷ map g ks) (miss k two.0) ∙ ap (λ xs. f k ∷ xs) (unmarked f g h miss ks two.1)
 
   abbrev IsMarked : (K → ℕ) → (K → ℕ) → (ℕ → ℕ) → List K → ℕ → Type 0
@@ -68,7 +65,7 @@ module _ {K : Type 0} (E : K → K → Bool) (e : IsEquivalence E) where
   pub count-none : (h : K) (xs : List K) → list_any (E h) xs ≡ false → count_by (E h) xs ≡ 0
   count-none h [] n = refl
   count-none h (x ∷ xs) n =
-      let two = or-false (E h x) (list_any (E h) xs) n in
+      let two = or_none (E h x) (list_any (E h) xs) n in
       let front = sum_by-cons (λ y. cond (E h y) 1 0) x xs in
       let rest = count-none h xs two.1 in
       let here : none_of (E h x) ≡ 0 = ap none_of two.0 in
@@ -98,8 +95,8 @@ module _ {K : Type 0} (E : K → K → Bool) (e : IsEquivalence E) where
   or-absorbed false false h = refl
 
   -- an item that isn't there yet
-  pub told-new : (xs ks : List K) (told : List ℕ) (h : K) → list_any (E h) ks ≡ false → IsTold E xs ks told → IsTold E (xs ++ h ∷ []) (ks ++ h ∷ []) (told ++ 1 ∷ [])
-  told-new xs ks told h n t =
+  pub recorded-new : (xs ks : List K) (amounts : List ℕ) (h : K) → list_any (E h) ks ≡ false → AreRecorded E xs ks amounts → AreRecorded E (xs ++ h ∷ []) (ks ++ h ∷ []) (amounts ++ 1 ∷ [])
+  recorded-new xs ks amounts h n t =
       let none = count-none h xs (sym (t.all h) ∙ n) in
       let own : often E (xs ++ h ∷ []) h ≡ 1 =
       let c = count-push xs h h in
@@ -113,8 +110,8 @@ module _ {K : Type 0} (E : K → K → Bool) (e : IsEquivalence E) where
       }
 
   -- an item that is there
-  pub told-again : (xs ks : List K) (told : List ℕ) (h : K) → list_any (E h) ks ≡ true → IsTold E xs ks told → IsTold E (xs ++ h ∷ []) ks (set told (position_or_len (E h) ks) (min (get_or told (position_or_len (E h) ks) 0) 1 + 1))
-  told-again xs ks told h n t =
+  pub recorded-again : (xs ks : List K) (amounts : List ℕ) (h : K) → list_any (E h) ks ≡ true → AreRecorded E xs ks amounts → AreRecorded E (xs ++ h ∷ []) ks (set amounts (position_or_len (E h) ks) (min (get_or amounts (position_or_len (E h) ks) 0) 1 + 1))
+  recorded-again xs ks amounts h n t =
       record {
         keys = t.keys ∙ sym (firsts-push xs h ∙ ap (λ b. cond b (firsts E xs) (firsts E xs ++ h ∷ [])) (ap (list_any (E h)) (sym t.keys) ∙ n));
         counts = ap (λ c. set c (position_or_len (E h) ks) (min (get_or c (position_or_len (E h) ks) 0) 1 + 1)) t.counts ∙ sym (marked (often E xs) (often E (xs ++ h ∷ [])) (λ c. min c 1 + 1) h (often-hit xs h) (often-miss xs h) ks t.differ n);

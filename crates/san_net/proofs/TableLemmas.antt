@@ -1,4 +1,5 @@
 -- A leaf is noted at its places, one after another.
+use Rattle.san_base.proofs.Bools.{or_false}
 use Rattle.std.proofs.Common.{◌≡◌, ℕ, zero, suc, ◌+◌, ◌<◌, Bool, true, false, cond, ◌||◌, Some, List, [], ◌∷◌, ◌++◌, length, refl, ap, sym, ◌∙◌, arith, inl, inr, ◌⊎◌, nat_eq, take, set, append-nil, map, get_or}
 use Rattle.std.specs.Prelude.{slice_get, slice_index, slice_index_or}
 use Rattle.std.specs.List.{list_any}
@@ -33,10 +34,6 @@ absent q (x ∷ xs) (suc i) h = first (eqb_tells q x) (absent q xs i (λ k l m e
 has_more : (q : ℕ) (xs : List ℕ) (i : ℕ) → i < length xs → has q (take (i + 1) xs) ≡ (has q (take i xs) || (nat_eq q (slice_index xs i) || false))
 has_more q xs i h = ap (has q) (take_more xs i 0 h) ∙ list_any-append (nat_eq q) (take i xs) (slice_index xs i ∷ [])
 
-or_nothing : (b : Bool) → (b || false) ≡ b
-or_nothing true = refl
-or_nothing false = refl
-
 abbrev mark : LeafId → Bool → List LeafId
 mark leaf b = cond b (leaf ∷ []) []
 
@@ -55,7 +52,7 @@ noted_more t0 t leaf xs i p a l e w n q = by_test (eqb_tells q p)
         ∙ ap (λ (b : Bool). slice_index_or t0 q [] ++ mark leaf b) (sym after)
     by_test (inr y) =
         let there : nat_eq q (slice_index xs i) ≡ false = ap (nat_eq q) (sym e) ∙ y.0 in
-        let after : has q (take (i + 1) xs) ≡ has q (take i xs) = has_more q xs i l ∙ ap (λ (b : Bool). has q (take i xs) || (b || false)) there ∙ or_nothing (has q (take i xs)) in
+        let after : has q (take (i + 1) xs) ≡ has q (take i xs) = has_more q xs i l ∙ ap (λ (b : Bool). has q (take i xs) || (b || false)) there ∙ or_false (has q (take i xs)) in
         get_or-set_other t p q _ [] y.1 ∙ n q ∙ ap (λ (b : Bool). slice_index_or t0 q [] ++ mark leaf b) (sym after)
 
 pub slot_place : (slots : List Slot) (i : ℕ) (d : Slot) → i < length slots → place_of (get_or slots i d) ≡ slice_index (map place_of slots) i

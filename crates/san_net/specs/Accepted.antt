@@ -1,7 +1,7 @@
 -- An atomic as the checks of a model's text accept it.
 use Rattle.std.specs.Prelude.{ℕ, ◌++◌, ◌≡◌, ◌≤◌, ◌<◌, nat_eq, IsTrue, List, length, map, All}
 use Rattle.std.specs.List.{count_by}
-use Rattle.san_base.specs.declared.limits.TheConstants.{MAX_CELLS, MAX_TOKENS}
+use Rattle.san_base.specs.declared.limits.TheConstants.{MAX_CELLS, MAX_PRIORITY, MAX_TOKENS}
 use Rattle.san_delay.specs.Sound.{IsSound}
 use Rattle.san_expr.specs.Below.{places_below}
 use Rattle.san_expr.specs.declared.expr.Expr.{Expr}
@@ -9,8 +9,8 @@ use Rattle.san_net.specs.Apart.{AreApart}
 use Rattle.san_net.specs.Below.{activity_below}
 use Rattle.san_net.specs.Instants.{instants_of}
 use Rattle.san_net.specs.Lengths.{activity_has_lengths, has_lengths}
-use Rattle.san_net.specs.Names.{is_name}
-use Rattle.san_net.specs.declared.activity.TheConstants.{MAX_CASES, MAX_PRIORITY}
+use Rattle.san_base.specs.Names.{is_name}
+use Rattle.san_net.specs.declared.activity.TheConstants.{MAX_CASES}
 use Rattle.san_net.specs.declared.atomic.TheConstants.{MAX_ATOMIC_ACTS, MAX_TERMS}
 use Rattle.san_net.specs.declared.activity.Input.{Input}
 use Rattle.san_net.specs.declared.activity.Input.TheVariants as input

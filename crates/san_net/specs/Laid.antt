@@ -73,16 +73,16 @@ IsInterval (span.Mean from to) = Unit {0}
 IsInterval (span.At tick) = ⊥
 
 -- a reward at one tick has no impulse terms
-abbrev pub MayBeTold : Option Reward → Type 0
-MayBeTold None = Unit {0}
-MayBeTold (Some r) = IsInterval r.span
+abbrev pub TakesImpulses : Option Reward → Type 0
+TakesImpulses None = Unit {0}
+TakesImpulses (Some r) = IsInterval r.span
 
 -- at most `MAX_REWARDS` rewards, each over a span; each term's reward is one of them
 pub record AreRewarded (n : Network) : Type 0 where
   pub few : length n.rewards ≤ MAX_REWARDS
   pub spans : All (λ r. IsSpan r.span) n.rewards
   pub known : EachPart n.parts (λ _ p. All (λ r. r < length n.rewards) (rewards_of p.atomic))
-  pub told : EachPart n.parts (λ _ p. All (λ t. MayBeTold (slice_get n.rewards t.reward)) p.atomic.impulses)
+  pub intervals : EachPart n.parts (λ _ p. All (λ t. TakesImpulses (slice_get n.rewards t.reward)) p.atomic.impulses)
 
 -- parts are numbered in order, activities part by part, and places by first appearance, the shared ones first
 pub record AreNumbered (n : Network) : Type 0 where

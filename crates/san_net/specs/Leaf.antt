@@ -56,7 +56,7 @@ abbrev pub kind_in : ActKind → leaf.ActKind
 kind_in (kind.Timed delay pair) = leaf.Timed (λ u v. (delay_of delay u v).answer) (pair_in pair)
 kind_in (kind.Instant priority) = leaf.Instant priority
 
--- a term's value as it is told
+-- a term's value as it is counted
 abbrev pub rate_in : List ℕ → RateTerm → net.Rated
 rate_in v t = rated_by (value_of t.expr v).answer
 

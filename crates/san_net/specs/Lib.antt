@@ -5,7 +5,6 @@ pub mod inner
 pub mod Completion
 pub mod Mentions
 pub mod Apart
-pub mod Names
 pub mod Lengths
 pub mod Instants
 pub mod Accepted

@@ -41,9 +41,9 @@ module _ {K : Type 0} (E : K → K → Bool) where
   EachDiffers (row ∷ rows) = Differ row × EachDiffers rows
 
   -- what is known after items were seen one by one: the different ones and how often each appeared
-  pub record IsTold (xs ks : List K) (told : List ℕ) : Type 0 where
+  pub record AreRecorded (xs ks : List K) (amounts : List ℕ) : Type 0 where
     pub keys : ks ≡ firsts xs
-    pub counts : told ≡ map (often xs) ks
+    pub counts : amounts ≡ map (often xs) ks
     pub differ : Differ ks
     pub all : (k : K) → list_any (E k) ks ≡ list_any (E k) xs
 

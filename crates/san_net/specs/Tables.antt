@@ -37,5 +37,5 @@ IsNoted before after leaf places = (q : ℕ) → slice_index_or after q [] ≡ s
 pub record IsFlat (n : Network) (importers : List (List LeafId)) (leaf_of : List LeafId) : Type 0 where
   pub network : IsNetwork n
   pub sized : length importers ≡ length n.initial
-  pub told : (place : ℕ) → slice_index_or importers place [] ≡ importers_of n.parts place
+  pub by_place : (place : ℕ) → slice_index_or importers place [] ≡ importers_of n.parts place
   pub acts : leaf_of ≡ leaves_of_acts n.parts

@@ -7,9 +7,6 @@ use sqlite_items::Items;
 /// The cases of the activity with the most of them: each has a number.
 pub const MAX_CASES: u32 = u32::MAX;
 
-/// The greatest priority.
-pub const MAX_PRIORITY: u32 = 1_000;
-
 /// What an activity needs of the marking and takes from it, after Sanders and Meyer's input gates.
 #[derive(Debug, Drop)]
 pub enum Input {

@@ -43,7 +43,7 @@ impl<'a> LeafCells<'a> {
 }
 
 impl<'a> Marked for LeafCells<'a> {
-    ghost sight = { plain };
+    ghost view_state = { plain };
 
     fn read(&mut self, place: u32) -> u32 {
         let slots = self.slots;

@@ -20,8 +20,8 @@ fn natural(x: i64) -> Option<u64>
 
 /// A case's weight, or none where it is negative.
 fn weight<V: Marked>(case: &Case, view: &mut V) -> Result<Option<u64>, Trap>
-    requires { IsTrue (case_below case.now (V.sight view.old).places) }
-    ensures { Evaluates (V.sight view.old) (V.sight view.new) (weight_of case.now) result }
+    requires { IsTrue (case_below case.now (V.view_state view.old).places) }
+    ensures { Evaluates (V.view_state view.old) (V.view_state view.new) (weight_of case.now) result }
 {
     let x = eval(&case.weight, view)?;
     Ok(natural(x))
@@ -38,8 +38,8 @@ fn weigh(sum: Option<u64>, weight: Option<u64>) -> Option<u64>
 }
 
 fn total<V: Marked>(cases: &[Case], view: &mut V) -> Result<Option<u64>, Trap>
-    requires { IsTrue (cases_below cases.now (V.sight view.old).places) }
-    ensures { Evaluates (V.sight view.old) (V.sight view.new) (total_from (Some 0) cases.now)
+    requires { IsTrue (cases_below cases.now (V.view_state view.old).places) }
+    ensures { Evaluates (V.view_state view.old) (V.view_state view.new) (total_from (Some 0) cases.now)
         result }
 {
     let mut sum = Some(0);
@@ -64,8 +64,8 @@ fn passed(left: u64, weight: Option<u64>) -> Option<u64>
 /// before, so that it reads nothing new.
 fn find<V: Marked>(cases: &[Case], picked: u64, view: &mut V) -> Result<u32, Trap>
     requires numbered { length cases.now ≤ MAX_CASES }
-    requires places { IsTrue (cases_below cases.now (V.sight view.old).places) }
-    ensures { Evaluates (V.sight view.old) (V.sight view.new) (found_from picked 0 cases.now)
+    requires places { IsTrue (cases_below cases.now (V.view_state view.old).places) }
+    ensures { Evaluates (V.view_state view.old) (V.view_state view.new) (found_from picked 0 cases.now)
         result }
 {
     let mut left = picked;
@@ -87,8 +87,8 @@ fn is_total(n: u64) -> bool
 
 fn find_by<V: Marked>(cases: &[Case], u: u64, total: Option<u64>, view: &mut V) -> Result<u32, Trap>
     requires numbered { length cases.now ≤ MAX_CASES }
-    requires places { IsTrue (cases_below cases.now (V.sight view.old).places) }
-    ensures { Evaluates (V.sight view.old) (V.sight view.new) (by_total u cases.now total) result }
+    requires places { IsTrue (cases_below cases.now (V.view_state view.old).places) }
+    ensures { Evaluates (V.view_state view.old) (V.view_state view.new) (by_total u cases.now total) result }
 {
     match total {
         Some(n) => {
@@ -105,8 +105,8 @@ fn find_by<V: Marked>(cases: &[Case], u: u64, total: Option<u64>, view: &mut V) 
 /// The case that a draw chooses, by the weights of all.
 pub(crate) fn choose_case<V: Marked>(cases: &[Case], u: u64, view: &mut V) -> Result<u32, Trap>
     requires numbered { length cases.now ≤ MAX_CASES }
-    requires places { IsTrue (cases_below cases.now (V.sight view.old).places) }
-    ensures { Evaluates (V.sight view.old) (V.sight view.new) (case_of u cases.now) result }
+    requires places { IsTrue (cases_below cases.now (V.view_state view.old).places) }
+    ensures { Evaluates (V.view_state view.old) (V.view_state view.new) (case_of u cases.now) result }
 {
     let sum = total(cases, view)?;
     find_by(cases, u, sum, view)

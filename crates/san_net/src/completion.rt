@@ -24,8 +24,8 @@ fn more(count: u32, weight: u32) -> Result<u32, Trap>
 }
 
 fn take<V: Cells>(place: u32, weight: u32, view: &mut V) -> Result<(), Trap>
-    requires { place < (V.sight view.old).places }
-    ensures { Meets (V.sight view.old) (V.sight view.new) (taken_from place weight) result }
+    requires { place < (V.view_state view.old).places }
+    ensures { Meets (V.view_state view.old) (V.view_state view.new) (taken_from place weight) result }
 {
     let count = less(view.read(place), weight)?;
     view.set(place, count);
@@ -33,8 +33,8 @@ fn take<V: Cells>(place: u32, weight: u32, view: &mut V) -> Result<(), Trap>
 }
 
 fn add<V: Cells>(place: u32, weight: u32, view: &mut V) -> Result<(), Trap>
-    requires { place < (V.sight view.old).places }
-    ensures { Meets (V.sight view.old) (V.sight view.new) (added_to place weight) result }
+    requires { place < (V.view_state view.old).places }
+    ensures { Meets (V.view_state view.old) (V.view_state view.new) (added_to place weight) result }
 {
     let count = more(view.read(place), weight)?;
     view.set(place, count);
@@ -42,8 +42,8 @@ fn add<V: Cells>(place: u32, weight: u32, view: &mut V) -> Result<(), Trap>
 }
 
 fn apply_input<V: Cells>(input: &Input, view: &mut V) -> Result<(), Trap>
-    requires { IsTrue (input_below input.now (V.sight view.old).places) }
-    ensures { Meets (V.sight view.old) (V.sight view.new) (function_of input.now) result }
+    requires { IsTrue (input_below input.now (V.view_state view.old).places) }
+    ensures { Meets (V.view_state view.old) (V.view_state view.new) (function_of input.now) result }
 {
     match input {
         Input::Arc(place, weight) => take(*place, *weight, view),
@@ -52,8 +52,8 @@ fn apply_input<V: Cells>(input: &Input, view: &mut V) -> Result<(), Trap>
 }
 
 fn apply_output<V: Cells>(output: &Output, view: &mut V) -> Result<(), Trap>
-    requires { IsTrue (output_below output.now (V.sight view.old).places) }
-    ensures { Meets (V.sight view.old) (V.sight view.new) (output_of output.now) result }
+    requires { IsTrue (output_below output.now (V.view_state view.old).places) }
+    ensures { Meets (V.view_state view.old) (V.view_state view.new) (output_of output.now) result }
 {
     match output {
         Output::Arc(place, weight) => add(*place, *weight, view),
@@ -62,8 +62,8 @@ fn apply_output<V: Cells>(output: &Output, view: &mut V) -> Result<(), Trap>
 }
 
 fn apply_inputs<V: Cells>(inputs: &[Input], view: &mut V) -> Result<(), Trap>
-    requires { IsTrue (inputs_below inputs.now (V.sight view.old).places) }
-    ensures { Meets (V.sight view.old) (V.sight view.new) (inputs_of inputs.now) result }
+    requires { IsTrue (inputs_below inputs.now (V.view_state view.old).places) }
+    ensures { Meets (V.view_state view.old) (V.view_state view.new) (inputs_of inputs.now) result }
 {
     for input in inputs {
         apply_input(input, view)?;
@@ -72,8 +72,8 @@ fn apply_inputs<V: Cells>(inputs: &[Input], view: &mut V) -> Result<(), Trap>
 }
 
 fn apply_outputs<V: Cells>(outputs: &[Output], view: &mut V) -> Result<(), Trap>
-    requires { IsTrue (outputs_below outputs.now (V.sight view.old).places) }
-    ensures { Meets (V.sight view.old) (V.sight view.new) (outputs_of outputs.now) result }
+    requires { IsTrue (outputs_below outputs.now (V.view_state view.old).places) }
+    ensures { Meets (V.view_state view.old) (V.view_state view.new) (outputs_of outputs.now) result }
 {
     for output in outputs {
         apply_output(output, view)?;
@@ -92,8 +92,8 @@ fn case_outputs(cases: &[Case], at: usize) -> &[Output]
 }
 
 fn apply_case<V: Cells>(cases: &[Case], at: usize, view: &mut V) -> Result<(), Trap>
-    requires { IsTrue (cases_below cases.now (V.sight view.old).places) }
-    ensures { Meets (V.sight view.old) (V.sight view.new) (outputs_of (case_outputs cases.now at))
+    requires { IsTrue (cases_below cases.now (V.view_state view.old).places) }
+    ensures { Meets (V.view_state view.old) (V.view_state view.new) (outputs_of (case_outputs cases.now at))
         result }
 {
     apply_outputs(case_outputs(cases, at), view)
@@ -106,9 +106,9 @@ fn complete_by<V: Cells>(
     view: &mut V,
 ) -> Result<u32, Trap>
     requires numbered { length cases.now ≤ MAX_CASES }
-    requires inputs { IsTrue (inputs_below inputs.now (V.sight view.old).places) }
-    requires cases { IsTrue (cases_below cases.now (V.sight view.old).places) }
-    ensures { Meets (V.sight view.old) (V.sight view.new) (completed_by u inputs.now cases.now)
+    requires inputs { IsTrue (inputs_below inputs.now (V.view_state view.old).places) }
+    requires cases { IsTrue (cases_below cases.now (V.view_state view.old).places) }
+    ensures { Meets (V.view_state view.old) (V.view_state view.new) (completed_by u inputs.now cases.now)
         result }
 {
     let at = choose_case(cases, u, view)?;
@@ -122,8 +122,8 @@ fn complete_by<V: Cells>(
 /// input functions, then the outputs of the case. When the weights are evaluated is an own rule.
 pub fn complete<V: Cells>(activity: &Activity, u: u64, view: &mut V) -> Result<u32, Trap>
     requires numbered { length activity.now.cases ≤ MAX_CASES }
-    requires places { IsTrue (activity_below activity.now (V.sight view.old).places) }
-    ensures { Meets (V.sight view.old) (V.sight view.new) (completion_of u activity.now) result }
+    requires places { IsTrue (activity_below activity.now (V.view_state view.old).places) }
+    ensures { Meets (V.view_state view.old) (V.view_state view.new) (completion_of u activity.now) result }
 {
     complete_by(
         u,

@@ -7,7 +7,7 @@ ghost use Rattle.san_net.specs.First.{attempt, enabled_by, first_among, first_of
 
 use crate::activity::Activity;
 use crate::atomic::Atomic;
-use crate::enabling::enabled;
+use crate::predicate::enabled;
 use san_base::{Name, Trap};
 use san_expr::Marked;
 
@@ -23,8 +23,8 @@ pub enum FirstInstant {
 }
 
 fn enabled_at<V: Marked>(acts: &[(Name, Activity)], at: u32, view: &mut V) -> Result<bool, Trap>
-    requires { IsTrue (acts_below acts.now (V.sight view.old).places) }
-    ensures { Evaluates (V.sight view.old) (V.sight view.new) (enabled_by (slice_get acts.now at))
+    requires { IsTrue (acts_below acts.now (V.view_state view.old).places) }
+    ensures { Evaluates (V.view_state view.old) (V.view_state view.new) (enabled_by (slice_get acts.now at))
         result }
 {
     match acts.get(at as usize) {
@@ -34,8 +34,8 @@ fn enabled_at<V: Marked>(acts: &[(Name, Activity)], at: u32, view: &mut V) -> Re
 }
 
 fn first_among<V: Marked>(acts: &[(Name, Activity)], order: &[u32], view: &mut V) -> FirstInstant
-    requires { IsTrue (acts_below acts.now (V.sight view.old).places) }
-    ensures { Evaluates (V.sight view.old) (V.sight view.new) (first_among acts.now order.now) (Ok
+    requires { IsTrue (acts_below acts.now (V.view_state view.old).places) }
+    ensures { Evaluates (V.view_state view.old) (V.view_state view.new) (first_among acts.now order.now) (Ok
         result) }
 {
     for act in order {
@@ -51,8 +51,8 @@ fn first_among<V: Marked>(acts: &[(Name, Activity)], order: &[u32], view: &mut V
 /// The first instantaneous activity that is enabled or traps, by greater priority and for equal
 /// priority by number. The activities after it aren't tested (own rules).
 pub fn first_instant<V: Marked>(atomic: &Atomic, view: &mut V) -> FirstInstant
-    requires { IsTrue (acts_below atomic.now.acts (V.sight view.old).places) }
-    ensures { Evaluates (V.sight view.old) (V.sight view.new) (first_of atomic.now) (Ok result) }
+    requires { IsTrue (acts_below atomic.now.acts (V.view_state view.old).places) }
+    ensures { Evaluates (V.view_state view.old) (V.view_state view.new) (first_of atomic.now) (Ok result) }
 {
     first_among(atomic.acts.as_slice(), atomic.instants.as_slice(), view)
 }

@@ -8,7 +8,6 @@ mod below;
 mod cells;
 mod choice;
 mod completion;
-mod enabling;
 mod examples;
 mod first;
 mod flat;
@@ -16,14 +15,14 @@ mod laws;
 mod order;
 mod part;
 mod path;
+mod predicate;
 mod tables;
 
-pub use activity::{ActKind, Activity, Case, Input, MAX_CASES, MAX_PRIORITY, Output};
+pub use activity::{ActKind, Activity, Case, Input, MAX_CASES, Output};
 pub use atomic::{Atomic, ImpulseTerm, MAX_ATOMIC_ACTS, MAX_TERMS, RateTerm};
 pub use below::{activity_below, acts_below};
 pub use cells::{LeafCells, copy_cells, gather, same_values, scatter};
 pub use completion::complete;
-pub use enabling::enabled;
 pub use examples::{
     bounds_of_terms, example_leaves, example_network, example_pair, example_rewards, example_run,
 };
@@ -36,3 +35,4 @@ pub use laws::{
 pub use order::instants;
 pub use part::{MAX_REWARDS, Part, Reward, Slot, Span};
 pub use path::Path;
+pub use predicate::enabled;

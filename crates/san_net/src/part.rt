@@ -31,7 +31,7 @@ pub struct Part {
 #[derive(Clone, Copy, Debug, PartialEq, Eq)]
 pub enum Span {
     Over(Tick, Tick),
-    /// The sum is told with the number of ticks.
+    /// The sum is shown with the number of ticks.
     Mean(Tick, Tick),
     /// The end of one tick.
     At(Tick),

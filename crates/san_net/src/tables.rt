@@ -57,7 +57,7 @@ pub(crate) fn importers_table(
     requires within { EachPart parts.now (λ _ p. (i place : ℕ) → slice_get (places_of p) i
         ≡ Some place → place < places) }
     ensures sized { IfOk result (λ v. length v.items ≡ places) }
-    ensures told { IfOk result (λ v. (q : ℕ) → slice_index_or (map (λ x. x.items) v.items) q []
+    ensures by_place { IfOk result (λ v. (q : ℕ) → slice_index_or (map (λ x. x.items) v.items) q []
         ≡ importers_of parts.now q) }
 {
     let mut table = empty_lists(alloc, places)?;

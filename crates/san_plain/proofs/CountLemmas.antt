@@ -13,8 +13,9 @@ use Rattle.san_law.specs.Tally.{tally_after}
 use Rattle.san_law.specs.Trajectory.{Runs}
 use Rattle.san_net.specs.Network.{Network, net_of, span_in}
 use Rattle.san_reward.specs.Running.{IsOf, Running, advanced, opened, with_all_rates, with_impulses}
-use Rattle.san_reward.proofs.Impulses.{event_same, impulses_told}
-use Rattle.san_reward.proofs.Telling.{advance_same, opened_of}
+use Rattle.san_reward.proofs.Impulses.{event_same, impulses_at_once}
+use Rattle.san_reward.proofs.Making.{zeros_read}
+use Rattle.san_reward.proofs.Sameness.{advance_same, opened_of}
 
 -- a tally after an event, and what else is of the network still
 pub record CountsOn (net : Net) (opening : State) (es : List Event) (e : Event) (rates : List (List Rated)) (u : Running) : Type 0 where
@@ -46,9 +47,9 @@ module _ (net : Net) (opening s : State) (es : List Event) (e : Event) (t : Runn
       subst (Counts net opening (es ++ e ∷ []) e.time) (event_same net v v_is e refl)
       (counts_more net opening s es (e ∷ []) v.tally e.time e.time runs v_counts (refl, tt) (omega arith) within (inl refl) (omega (arith, few)))
 
-  told_on : CountsOn net opening es e rates (with_impulses v e.impulses)
-  told_on =
-      let same = impulses_told v e.impulses in
+  impulses_on : CountsOn net opening es e rates (with_impulses v e.impulses)
+  impulses_on =
+      let same = impulses_at_once v e.impulses in
       let now : (with_impulses v e.impulses).time ≡ e.time = ap (λ (u : Running). u.time) same in
       record {
         is_of = subst (IsOf net) (sym same) (record { spans = is.spans; terms = is.terms; horizon = is.horizon });
@@ -58,18 +59,13 @@ module _ (net : Net) (opening s : State) (es : List Event) (e : Event) (t : Runn
       }
 
   pub counts_on : (u : Running) (xs : List Impulse) → xs ≡ e.impulses → u ≡ with_impulses v xs → CountsOn net opening es e rates u
-  counts_on u xs same so = subst (CountsOn net opening es e rates) (sym (so ∙ ap (with_impulses v) same)) told_on
-
-zeros_at : (k r : ℕ) → slice_index_or (replicate k zero_sum) r zero_sum ≡ zero_sum
-zeros_at zero r = refl
-zeros_at (suc k) zero = refl
-zeros_at (suc k) (suc r) = zeros_at k r
+  counts_on u xs same so = subst (CountsOn net opening es e rates) (sym (so ∙ ap (with_impulses v) same)) impulses_on
 
 -- before the first event
 pub opened_counts : (n : Network) (draw : ℕ → ℕ → ℕ) (bounds : Limits) (rates : List (List Rated)) → Counts (net_of n draw bounds) (opening_state (net_of n draw bounds)) [] 0 (with_all_rates (opened n bounds.horizon) rates).tally
 opened_counts n draw bounds rates = record {
   long = length-replicate (length n.rewards) zero_sum ∙ sym (length-map n.rewards (λ r. span_in r.span));
-  sums = λ r h. zeros_at (length n.rewards) r ∙ sym (plus_first zero_sum);
+  sums = λ r h. zeros_read (length n.rewards) r ∙ sym (plus_first zero_sum);
   impulses = omega arith;
   early = tt;
   timely = omega arith;

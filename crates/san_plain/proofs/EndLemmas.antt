@@ -21,7 +21,7 @@ use Rattle.san_reward.specs.Running.{net_in}
 use Rattle.san_reward.specs.Worth.{worth_of}
 use Rattle.san_reward.specs.declared.worth.Worth.{Worth}
 use Rattle.san_reward.proofs.RatesSet.{rates_law}
-use Rattle.san_reward.proofs.Telling.{worth_same}
+use Rattle.san_reward.proofs.Sameness.{worth_same}
 use Rattle.san_report.specs.Closings.{closing, worths_by}
 use Rattle.san_plain.specs.inner.Progress.{Ends, IsOver, Stands, left_after}
 use Rattle.san_report.specs.Pages.{Sent}
@@ -32,32 +32,17 @@ use Rattle.san_plain.proofs.ReportLemmas.{lines_last, outcome_is, rewards_like}
 use Rattle.san_plain.proofs.StepLemmas.{IsEnd, ends, fits_at}
 use Rattle.san_plain.proofs.WorthLemmas.{counted_worth}
 use Rattle.san_law.specs.Trajectory.{trajectory}
+use Rattle.san_seq.proofs.PublicAnswers.{stop_answered, end_answered}
+use Rattle.san_seq.proofs.RunLemmas.{same_ending}
 use Rattle.san_seq.specs.FlatRun.{Run, step_of}
 use Rattle.san_seq.specs.Overs.{limits_in}
-use Rattle.san_seq.specs.Telling.{ending_in, stepped_of, told_of}
+use Rattle.san_seq.specs.Outcomes.{ending_in, stepped_of, event_or_ending}
 use Rattle.san_seq.specs.declared.steps.Stepped.TheVariants as stepped
 
--- what a step answers tells what it told
-stop_told : (x : Result Event Ending) (why : Stop) → stepped_of x ≡ stepped.Stopped why → x ≡ Err (ending.Stop why)
-stop_told (Ok f) why is = absurd cc
-stop_told (Err (ending.End h)) why is = absurd cc
-stop_told (Err (ending.Stop w)) why is = ap (λ (y : Stop). (let r : Result Event Ending = Err (ending.Stop y) in r)) (same w why is)
-  where
-    same : (a b : Stop) → stepped.Stopped a ≡ stepped.Stopped b → a ≡ b
-    same a b q = cc
-
-end_told : (x : Result Event Ending) → stepped_of x ≡ stepped.End → (h : Tick) × (x ≡ Err (ending.End h))
-end_told (Ok f) is = absurd cc
-end_told (Err (ending.End h)) is = (h, refl)
-end_told (Err (ending.Stop w)) is = absurd cc
-
-same_ending : (a b : Ending) → (let r : Result Event Ending = Err a in r) ≡ Err b → a ≡ b
-same_ending a b e = cc
-
 -- the law's ending of a step
-over_by : (n : Network) (x : law.Stepped) (e : Ending) → told_of n x ≡ Err e → (time : ℕ) × (why : law.Ending) × (x ≡ law.Over time why) × (ending_in n time why ≡ e)
-over_by n (law.Happened f) e told = absurd cc
-over_by n (law.Over time why) e told = (time, why, refl, same_ending (ending_in n time why) e told)
+over_by : (n : Network) (x : law.Stepped) (e : Ending) → event_or_ending n x ≡ Err e → (time : ℕ) × (why : law.Ending) × (x ≡ law.Over time why) × (ending_in n time why ≡ e)
+over_by n (law.Happened f) e answered = absurd cc
+over_by n (law.Over time why) e answered = (time, why, refl, same_ending (ending_in n time why) e answered)
 
 module _ (o : Opened) (es : List law.Event) (s : State) (c : CountedRun) (st : Stands o es s c) where
   abbrev net : Net
@@ -116,8 +101,8 @@ module _ (o : Opened) (es : List law.Event) (s : State) (c : CountedRun) (st : S
       moved y = record { outcome = y.outcome; within = y.within; spans = y.spans; put = y.put }
 
   ends_by : (e : Ending) (new : CountedRun) → (step_of c.seq).0 ≡ Err e → new ≡ record c { seq = new.seq } → Ends o s e c new
-  ends_by e new told kept =
-      let at = over_by o.network (law.step net s).0 e (ap (λ (r : Run). (step_of r).0) (sym st.at_state) ∙ told) in
+  ends_by e new answered kept =
+      let at = over_by o.network (law.step net s).0 e (ap (λ (r : Run). (step_of r).0) (sym st.at_state) ∙ answered) in
       record { time = at.0; why = at.1; over = at.2; ending_is = at.3; kept = kept }
 
   end_tick : (time : ℕ) (why : law.Ending) (h : Tick) → IsEnd o.network net time why → ending_in o.network time why ≡ ending.End h → h ≡ o.limits.horizon
@@ -134,14 +119,14 @@ module _ (o : Opened) (es : List law.Event) (s : State) (c : CountedRun) (st : S
 
   -- the end is at the horizon
   at_horizon : (h : Tick) → (step_of c.seq).0 ≡ Err (ending.End h) → (step_of c.seq).0 ≡ Err (ending.End c.limits.horizon)
-  at_horizon h told =
-      let at = over_by o.network (law.step net s).0 (ending.End h) (ap (λ (r : Run). (step_of r).0) (sym st.at_state) ∙ told) in
+  at_horizon h answered =
+      let at = over_by o.network (law.step net s).0 (ending.End h) (ap (λ (r : Run). (step_of r).0) (sym st.at_state) ∙ answered) in
       let tick = end_tick at.0 at.1 h (end_is at.0 at.1 at.2) at.3 in
-      told ∙ ap (λ (t : Tick). (let r : Result Event Ending = Err (ending.End t) in r)) (tick ∙ ap (λ l. l.horizon) (sym st.in_limits))
+      answered ∙ ap (λ (t : Tick). (let r : Result Event Ending = Err (ending.End t) in r)) (tick ∙ ap (λ l. l.horizon) (sym st.in_limits))
 
   -- a step that ends the run at its horizon, or stops it
   pub ended : (new : CountedRun) → stepped.End ≡ stepped_of (step_of c.seq).0 → new ≡ record c { seq = new.seq } → Ends o s (ending.End c.limits.horizon) c new
-  ended new said kept = let told = end_told (step_of c.seq).0 (sym said) in ends_by (ending.End c.limits.horizon) new (at_horizon told.0 told.1) kept
+  ended new said kept = let answered = end_answered (step_of c.seq).0 (sym said) in ends_by (ending.End c.limits.horizon) new (at_horizon answered.0 answered.1) kept
 
   pub stopped : (new : CountedRun) (why : Stop) → stepped.Stopped why ≡ stepped_of (step_of c.seq).0 → new ≡ record c { seq = new.seq } → Ends o s (ending.Stop why) c new
-  stopped new why said kept = ends_by (ending.Stop why) new (stop_told (step_of c.seq).0 why (sym said)) kept
+  stopped new why said kept = ends_by (ending.Stop why) new (stop_answered (step_of c.seq).0 why (sym said)) kept

@@ -1,4 +1,5 @@
 -- From one marking to another: the rates in the new one, and the marking that is kept.
+use Rattle.san_base.proofs.Bools.{not_false}
 use Rattle.std.proofs.Common.{ℕ, zero, suc, ◌<◌, ◌≡◌, ◌≢◌, ◌∙◌, ◌⊎◌, inl, inr, ap, sym, refl, subst, arith, List, [], ◌∷◌, length, map, Some, nat_eq, Bool, true, false, slice_index, slice_index_or}
 use Rattle.std.specs.Prelude.{not, slice_get}
 use Rattle.std.specs.List.{list_any}
@@ -24,10 +25,6 @@ record Differs (places before m : List ℕ) : Type 0 where
   place : ℕ
   there : slice_get places cell ≡ Some place
   other : slice_index before place ≢ slice_index m place
-
-not_false : (b : Bool) → not b ≡ false → b ≡ true
-not_false true e = refl
-not_false false e = absurd cc
 
 module _ (before m : List ℕ) where
   one_more_same : (q : ℕ) (places : List ℕ) → slice_index before q ≡ slice_index m q → HaveSame places before m → HaveSame (q ∷ places) before m

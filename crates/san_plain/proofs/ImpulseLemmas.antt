@@ -1,4 +1,4 @@
--- Impulses told term by term.
+-- Impulses counted term by term.
 use Rattle.std.proofs.Common.{ℕ, ◌<◌, ◌≡◌, ◌∙◌, ap, sym, refl, arith, List, [], ◌∷◌, ◌++◌, length, map, Some, Result}
 use Rattle.std.specs.Prelude.{ℤ, All, slice_get}
 use Rattle.std.proofs.lemmas.List.{get_or-map, length-map}

@@ -1,4 +1,4 @@
--- A step of a run with an event: what an account may be told of it, and how the run stands after it.
+-- A step of a run with an event: what an account may count of it, and how the run stands after it.
 use Rattle.std.proofs.Common.{ℕ, ◌+◌, ◌^◌, ◌≤◌, ◌<◌, ◌≡◌, ◌∙◌, ap, sym, refl, subst, arith, List, [], ◌∷◌, ◌++◌, length, length-append, Option, Result, Ok, Err}
 use Rattle.san_base.specs.declared.ending.Ending.{Ending}
 use Rattle.san_base.specs.declared.ending.Event.{Event}
@@ -30,32 +30,24 @@ use Rattle.san_seq.specs.FlatRun.{On, Run, after_step, marking_of, step_of}
 use Rattle.san_seq.specs.Overs.{limits_in}
 use Rattle.san_seq.specs.Reaching.{IsInTime, IsTheLaws, impulses_at}
 use Rattle.san_net.specs.Tables.{act_of}
-use Rattle.san_seq.specs.Telling.{event_in, stepped_of}
+use Rattle.san_seq.specs.Outcomes.{event_in, stepped_of}
 use Rattle.san_seq.specs.declared.steps.Stepped.TheVariants as stepped
 use Rattle.san_seq.proofs.ReachLemmas.{events_are_laws, events_in_time}
 use Rattle.san_base.specs.declared.ending.Ending.TheVariants as ending
-
--- what a step answers tells what it told
-event_told : (x : Result Event Ending) (e : Event) → stepped_of x ≡ stepped.Event e → x ≡ Ok e
-event_told (Ok f) e is = ap (λ (y : Event). (let r : Result Event Ending = Ok y in r)) (same f e is)
-  where
-    same : (a b : Event) → stepped.Event a ≡ stepped.Event b → a ≡ b
-    same a b q = cc
-event_told (Err (ending.End h)) e is = absurd cc
-event_told (Err (ending.Stop why)) e is = absurd cc
+use Rattle.san_seq.proofs.PublicAnswers.{event_answered}
 
 module _ (o : Opened) (es : List law.Event) (s : State) (c : CountedRun) (st : Stands o es s c) (event : Event) (said : stepped.Event event ≡ stepped_of (step_of c.seq).0) where
   abbrev net : Net
   net = net_by o
 
-  pub told : (step_of c.seq).0 ≡ Ok event
-  told = event_told (step_of c.seq).0 event (sym said)
+  pub answered : (step_of c.seq).0 ≡ Ok event
+  answered = event_answered (step_of c.seq).0 event (sym said)
 
   is_lawful : IsLawful net
   is_lawful = lawful o.network st.known (draw_of o.seed) (limits_in o.limits)
 
   pub is_the_laws : IsTheLaws (run_at o s) s event
-  is_the_laws = events_are_laws (run_at o s) s event refl (ap (λ (r : Run). (step_of r).0) (sym st.at_state) ∙ told)
+  is_the_laws = events_are_laws (run_at o s) s event refl (ap (λ (r : Run). (step_of r).0) (sym st.at_state) ∙ answered)
 
   abbrev pub happened : law.Event
   happened = is_the_laws.event
@@ -67,7 +59,7 @@ module _ (o : Opened) (es : List law.Event) (s : State) (c : CountedRun) (st : S
   happens = is_the_laws.happens
 
   pub event_is : event_in o.network happened ≡ event
-  event_is = is_the_laws.told
+  event_is = is_the_laws.answered
 
   in_time : IsInTime o.network net s happened
   in_time = events_in_time o.network st.known (draw_of o.seed) (limits_in o.limits) es s happened st.runs happens
@@ -98,12 +90,12 @@ module _ (o : Opened) (es : List law.Event) (s : State) (c : CountedRun) (st : S
   pub next_fits : c.count + 1 ≤ 10000000 + 1
   next_fits = omega (arith, events_few, st.many, st.range.events_in_range)
 
-  module _ (new : Run) (m : List ℕ) (left : new ≡ after_step c.seq) (here : m ≡ marking_of new.going) where
-    going : new.going ≡ On reached
-    going = ap (λ (r : Run). r.going) (left ∙ ap after_step st.at_state) ∙ is_the_laws.left
+  module _ (new : Run) (m : List ℕ) (left : new ≡ after_step c.seq) (here : m ≡ marking_of new.run_phase) where
+    run_phase : new.run_phase ≡ On reached
+    run_phase = ap (λ (r : Run). r.run_phase) (left ∙ ap after_step st.at_state) ∙ is_the_laws.left
 
     marking_is : m ≡ reached.marking
-    marking_is = here ∙ ap marking_of going
+    marking_is = here ∙ ap marking_of run_phase
 
     sized_is : length m ≡ length o.network.initial
     sized_is = ap (λ (xs : List ℕ). length xs) marking_is ∙ done.fits.sized
@@ -158,7 +150,7 @@ module _ (o : Opened) (es : List law.Event) (s : State) (c : CountedRun) (st : S
       of_network = flat ∙ st.of_network;
       in_limits = limits ∙ st.in_limits;
       runs = runs_append net (opening_state net) s reached es (happened ∷ []) st.runs (happens, refl);
-      at_state = seq ∙ (left ∙ (ap after_step st.at_state ∙ ap (λ g. record { network = o.network; seed = o.seed; limits = o.limits; going = g }) is_the_laws.left));
+      at_state = seq ∙ (left ∙ (ap after_step st.at_state ∙ ap (λ g. record { network = o.network; seed = o.seed; limits = o.limits; run_phase = g }) is_the_laws.left));
       counted = counted_on d.account account;
       many = omega (arith, count, st.many, length-append es (happened ∷ []));
     }

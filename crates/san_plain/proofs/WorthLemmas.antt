@@ -1,4 +1,5 @@
 -- The running sums of a run that came to its horizon are its rewards.
+use Rattle.san_law.proofs.Rewards.{plus_swap}
 use Rattle.std.proofs.Common.{ℕ, ◌+◌, ◌-◌, ◌<◌, ◌≤◌, ◌≡◌, ◌∙◌, ap, sym, refl, List, length, Bool, true, false, arith, nat_lt, cond}
 use Rattle.std.proofs.lemmas.Bool.{ltb-false}
 use Rattle.san_law.specs.Net.{Net, Rated}
@@ -10,9 +11,6 @@ use Rattle.san_law.specs.Tally.{Tally, going_on, sum_of, tally_worth}
 use Rattle.san_law.specs.Standing.{Counts}
 use Rattle.san_law.proofs.Tallies.{marked_end, plus_four, plus_last, sum_like, sum_split}
 use Rattle.san_law.proofs.Spans.{span_sum}
-
-plus_swap : (a b c : Rated) → plus (plus a b) c ≡ plus (plus a c) b
-plus_swap a b c = sym (plus_last (plus (plus a b) c)) ∙ (plus_four a b c zero_sum ∙ ap (plus (plus a c)) (plus_last b))
 
 module _ (net : Net) (opening s : State) (es : List Event) (time : ℕ) (tally : Tally) (runs : Runs net opening es s) (counts : Counts net opening es time tally) (present : tally.rates ≡ rates_from net 0 net.parts s.marking) (r : ℕ) (is : r < length net.spans) where
   ticks_on : (n : ℕ) → sum_ticks (λ u. tick_sum net r u tally.rates) time n ≡ sum_ticks (ticked net r opening es) time n

@@ -16,7 +16,7 @@ use Rattle.san_reward.specs.Worth.{worth_of}
 use Rattle.san_reward.specs.declared.worth.Worth.{Worth}
 use Rattle.san_plain.specs.declared.run.Unwritten.{Unwritten}
 use Rattle.san_seq.specs.Overs.{limits_in}
-use Rattle.san_seq.specs.Telling.{ending_in, event_in}
+use Rattle.san_seq.specs.Outcomes.{ending_in, event_in}
 
 -- a run that has not begun
 pub record Opened : Type 0 where

@@ -1,4 +1,4 @@
-//! The sequential run of a network, told as its report: a line for each completion, one for the
+//! The sequential run of a network, shown as its report: a line for each completion, one for the
 //! ending, one for each reward.
 #![tactic(auto)]
 

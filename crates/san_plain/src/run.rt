@@ -1,7 +1,7 @@
-//! The run of a network, told as its report.
+//! The run of a network, shown as its report.
 
 ghost use Rattle.std.specs.Prelude.{◌≡◌, ◌≤◌, List, ℕ, Option, IfOk, IfErr, length};
-ghost use Rattle.san_base.specs.Flow.{Rose};
+ghost use Rattle.san_base.specs.Flow.{CountRose};
 ghost use Rattle.san_base.specs.Limits.{IsInRange};
 ghost use Rattle.san_report.specs.Puts.{EndsIn};
 ghost use Rattle.san_plain.specs.inner.Progress.{IsOver, IsStanding, IsUnderWay, TurnedTo};
@@ -55,7 +55,7 @@ fn turn<K: Sink>(
     ensures report { (o : Opened) (first : Option (List ℕ))
         → IsUnderWay o first (K.held sink.old) progress.old
         → TurnedTo o first result (K.held sink.new) progress.old progress.new }
-    ensures cause { IfErr result (λ e. Rose (K.faults sink.old) (K.faults sink.new)) }
+    ensures cause { IfErr result (λ e. CountRose (K.faults sink.old) (K.faults sink.new)) }
     ensures later { K.faults sink.old ≤ K.faults sink.new }
 {
     let number = progress.run.count;
@@ -84,7 +84,7 @@ fn finish<K: Sink>(
     ensures report { (o : Opened) (first : Option (List ℕ))
         → IsOver o first (K.held sink.old) progress.old.run progress.old.pages ending
         → Reports result o first (K.held sink.new) }
-    ensures cause { IfErr result (λ e. Rose (K.faults sink.old) (K.faults sink.new)) }
+    ensures cause { IfErr result (λ e. CountRose (K.faults sink.old) (K.faults sink.new)) }
     ensures later { K.faults sink.old ≤ K.faults sink.new }
 {
     let run = &progress.run;
@@ -118,7 +118,7 @@ impl<'a> Run<'a> {
     /// A run that stops has a report too.
     pub fn write<K: Sink>(self, sink: &mut K) -> Result<Ending, Unwritten>
         ensures report { Reports result self.entry (K.held sink.old) (K.held sink.new) }
-        ensures cause { IfErr result (λ e. Rose (K.faults sink.old) (K.faults sink.new)) }
+        ensures cause { IfErr result (λ e. CountRose (K.faults sink.old) (K.faults sink.new)) }
         ensures later { K.faults sink.old ≤ K.faults sink.new }
     {
         let mut progress = self.progress;

@@ -30,31 +30,9 @@ use Rattle.san_probe.proofs.WatchLemmas.{watched_more}
 use Rattle.san_seq.specs.FlatRun.{On, Run, after_step, step_of, opening}
 use Rattle.san_seq.specs.Overs.{limits_in}
 use Rattle.san_seq.specs.Reaching.{IsInTime, IsTheLaws}
-use Rattle.san_seq.specs.Telling.{ending_in, stepped_of, told_of}
+use Rattle.san_seq.specs.Outcomes.{ending_in, stepped_of, event_or_ending}
 use Rattle.san_seq.specs.declared.steps.Stepped.TheVariants as stepped
 use Rattle.san_seq.proofs.ReachLemmas.{events_are_laws, events_in_time}
-
--- what a step answers tells what it told
-pub event_told : (x : Result Event Ending) (e : Event) → stepped_of x ≡ stepped.Event e → x ≡ Ok e
-event_told (Ok f) e is = ap (λ (y : Event). (let r : Result Event Ending = Ok y in r)) (same f e is)
-  where
-    same : (a b : Event) → stepped.Event a ≡ stepped.Event b → a ≡ b
-    same a b q = cc
-event_told (Err (ending.End h)) e is = absurd cc
-event_told (Err (ending.Stop why)) e is = absurd cc
-
-pub stop_told : (x : Result Event Ending) (why : Stop) → stepped_of x ≡ stepped.Stopped why → x ≡ Err (ending.Stop why)
-stop_told (Ok f) why is = absurd cc
-stop_told (Err (ending.End h)) why is = absurd cc
-stop_told (Err (ending.Stop w)) why is = ap (λ (y : Stop). (let r : Result Event Ending = Err (ending.Stop y) in r)) (same w why is)
-  where
-    same : (a b : Stop) → stepped.Stopped a ≡ stepped.Stopped b → a ≡ b
-    same a b q = cc
-
-pub end_told : (x : Result Event Ending) → stepped_of x ≡ stepped.End → (h : Tick) × (x ≡ Err (ending.End h))
-end_told (Ok f) is = absurd cc
-end_told (Err (ending.End h)) is = (h, refl)
-end_told (Err (ending.Stop w)) is = absurd cc
 
 -- no event is later
 early_on : (a b : ℕ) (es : List law.Event) (e : law.Event) → a ≤ b → e.time ≤ b → AllTo a es → AllTo b (es ++ e ∷ [])
@@ -69,15 +47,15 @@ module _ (n : Network) (seed : ℕ) (limits : Limits) (net_is : IsNetwork n) whe
   net = net_by n seed limits
 
   module _ (es : List law.Event) (s : State) (r : Run) (now : ℕ) (st : Stands n seed limits es s r now) where
-    module _ (e : Event) (told : (step_of r).0 ≡ Ok e) where
+    module _ (e : Event) (answered : (step_of r).0 ≡ Ok e) where
       pub laws : IsTheLaws (run_at n seed limits s) s e
-      laws = events_are_laws (run_at n seed limits s) s e refl (ap (λ (x : Run). (step_of x).0) (sym st.at_state) ∙ told)
+      laws = events_are_laws (run_at n seed limits s) s e refl (ap (λ (x : Run). (step_of x).0) (sym st.at_state) ∙ answered)
 
       in_time : IsInTime n net s laws.event
       in_time = events_in_time n net_is (draw_of seed) (limits_in limits) es s laws.event st.runs laws.happens
 
       pub time_is : laws.event.time ≡ e.time.0
-      time_is = ap (λ (x : Event). x.time.0) laws.told
+      time_is = ap (λ (x : Event). x.time.0) laws.answered
 
       pub later : now ≤ e.time.0
       later = let a = in_time.later in let b = st.time in let c = time_is in omega (arith, a, b, c)
@@ -86,7 +64,7 @@ module _ (n : Network) (seed : ℕ) (limits : Limits) (net_is : IsNetwork n) whe
       stands_on =
           let a = later in let b = time_is in let within = in_time.within in
           record {
-            at_state = ap after_step st.at_state ∙ ap (λ g. let x : Run = record { network = n; seed = seed; limits = limits; going = g } in x) laws.left;
+            at_state = ap after_step st.at_state ∙ ap (λ g. let x : Run = record { network = n; seed = seed; limits = limits; run_phase = g } in x) laws.left;
             runs = runs_append net (opening_state net) s (law.step net s).1 es (laws.event ∷ []) st.runs (laws.happens, refl);
             early = early_on now e.time.0 es laws.event a (omega (arith, b)) st.early;
             time = in_time.present ∙ time_is;
@@ -94,17 +72,17 @@ module _ (n : Network) (seed : ℕ) (limits : Limits) (net_is : IsNetwork n) whe
             marking = step_small net (networks_small n (draw_of seed) (limits_in limits)) (length n.initial) s st.marking;
           }
 
-    over_by : (x : law.Stepped) (e : Ending) → told_of n x ≡ Err e → (time : ℕ) × (why : law.Ending) × (x ≡ law.Over time why) × (ending_in n time why ≡ e)
-    over_by (law.Happened f) e told = absurd cc
-    over_by (law.Over time why) e told = (time, why, refl, same (ending_in n time why) e told)
+    over_by : (x : law.Stepped) (e : Ending) → event_or_ending n x ≡ Err e → (time : ℕ) × (why : law.Ending) × (x ≡ law.Over time why) × (ending_in n time why ≡ e)
+    over_by (law.Happened f) e answered = absurd cc
+    over_by (law.Over time why) e answered = (time, why, refl, same (ending_in n time why) e answered)
       where
         same : (a b : Ending) → (let y : Result Event Ending = Err a in y) ≡ Err b → a ≡ b
         same a b q = cc
 
     pub comes_to : (measure : List ℕ → ℤ) (from to : ℕ) (e : Ending) → (step_of r).0 ≡ Err e
         → Some (watched_by (sum_values (value_at measure net es) from (to - from)) net.horizon to e) ≡ watched_of n seed limits measure from to
-    comes_to measure from to e told =
-        let over = over_by (law.step net s).0 e (ap (λ (x : Run). (step_of x).0) (sym st.at_state) ∙ told) in
+    comes_to measure from to e answered =
+        let over = over_by (law.step net s).0 e (ap (λ (x : Run). (step_of x).0) (sym st.at_state) ∙ answered) in
         let last : Trajectory = record { events = []; time = over.0; ending = over.1 } in
         let here : trajectory net s ≡ Some last = ap (λ (x : law.Stepped). ran_by x (run net (net.limit - s.count)) (law.step net s).1) over.2 in
         let whole = rest_is_trajectory net (opening_state net) s es last st.runs here in
@@ -134,10 +112,10 @@ module _ (n : Network) (seed : ℕ) (limits : Limits) (net_is : IsNetwork n) (me
       → more ≡ sum +ℤ value *ℤ pos (ticks_before from to e.time.0 - ticks_before from to now)
       → ((t : State) → s ≡ run_at n seed limits t → present ≡ measure t.marking)
       → Watches n seed limits measure from to s more e.time.0 present
-  watches_on e s more present told left counts reads =
+  watches_on e s more present answered left counts reads =
       let st = w.stands in
-      let on = stands_on n seed limits net_is w.events w.state r now st e told in
-      let law_event = (laws n seed limits net_is w.events w.state r now st e told).event in
+      let on = stands_on n seed limits net_is w.events w.state r now st e answered in
+      let law_event = (laws n seed limits net_is w.events w.state r now st e answered).event in
       let here : Stands n seed limits (w.events ++ law_event ∷ []) (law.step the_net w.state).1 s e.time.0 = subst (λ (x : Run). Stands n seed limits (w.events ++ law_event ∷ []) (law.step the_net w.state).1 x e.time.0) (sym left) on in
       record {
         events = w.events ++ law_event ∷ [];
@@ -147,7 +125,7 @@ module _ (n : Network) (seed : ℕ) (limits : Limits) (net_is : IsNetwork n) (me
             counts
             ∙ ap (λ x. x +ℤ value *ℤ pos (ticks_before from to e.time.0 - ticks_before from to now)) w.counted
             ∙ ap (λ v. sum_until measure the_net from to w.events now +ℤ v *ℤ pos (ticks_before from to e.time.0 - ticks_before from to now)) w.present
-            ∙ watched_more measure the_net from to w.state w.events (law_event ∷ []) now e.time.0 st.runs st.early (time_is n seed limits net_is w.events w.state r now st e told, tt) (later n seed limits net_is w.events w.state r now st e told);
+            ∙ watched_more measure the_net from to w.state w.events (law_event ∷ []) now e.time.0 st.runs st.early (time_is n seed limits net_is w.events w.state r now st e answered, tt) (later n seed limits net_is w.events w.state r now st e answered);
         present = reads (law.step the_net w.state).1 here.at_state;
       }
 

@@ -17,10 +17,11 @@ use Rattle.san_probe.specs.Watching.{sum_values, value_at, watched_by, watched_o
 use Rattle.san_probe.specs.inner.Progress.{ticks_before}
 use Rattle.san_probe.specs.declared.measured.Watched.{Watched}
 use Rattle.san_probe.specs.declared.measured.Watched.TheVariants.{Beyond, Stopped, Sum}
-use Rattle.san_probe.proofs.ProgressLemmas.{comes_to, end_told, event_told, later, stands_first, stands_on, stop_told, sum_whole, watches_on}
+use Rattle.san_probe.proofs.ProgressLemmas.{comes_to, later, stands_first, stands_on, sum_whole, watches_on}
 use Rattle.san_probe.proofs.WatchLemmas.{before_grows}
+use Rattle.san_seq.proofs.PublicAnswers.{event_answered, stop_answered, end_answered}
 use Rattle.san_seq.specs.FlatRun.{Run, after_step, marking_of, opening, step_of}
-use Rattle.san_seq.specs.Telling.{stepped_of}
+use Rattle.san_seq.specs.Outcomes.{stepped_of}
 use Rattle.san_seq.specs.declared.steps.Stepped.TheVariants as stepped
 
 -- no tick is before the first
@@ -37,12 +38,12 @@ marked_as places n m k long is h =
 
 module _ (n : Network) (seed : ℕ) (limits : Limits) (net : IsNetwork n) (shared : (place : ℕ) → place < n.shared → 2 ≤ length (importers_of n.parts place))
     (private : (place : ℕ) → n.shared ≤ place → place < length n.initial → length (importers_of n.parts place) ≡ 1)
-    (r : Run) (first : r ≡ opening n seed limits) (m : List ℕ) (seen : m ≡ marking_of r.going) where
+    (r : Run) (first : r ≡ opening n seed limits) (m : List ℕ) (seen : m ≡ marking_of r.run_phase) where
   abbrev first_marking : List ℕ
   first_marking = (opening_state (net_by n seed limits)).marking
 
   is_first : m ≡ first_marking
-  is_first = seen ∙ ap (λ (x : Run). marking_of x.going) first
+  is_first = seen ∙ ap (λ (x : Run). marking_of x.run_phase) first
 
   pub first_marked : (places : ℕ) → places ≡ length n.initial → IsMarkingOf places m
   first_marked places long = marked_as places n m first_marking long is_first (stands_first n seed limits net shared private).marking
@@ -59,38 +60,38 @@ module _ (n : Network) (seed : ℕ) (limits : Limits) (net : IsNetwork n) (share
 module _ (n : Network) (seed : ℕ) (limits : Limits) (net_is : IsNetwork n) (measure : List ℕ → ℤ) (from to : ℕ) (r : Run) (sum : ℤ) (now : ℕ) (value : ℤ) (w : Watches n seed limits measure from to r sum now value) where
   -- an event
   module _ (e : Event) (tells : stepped_of (step_of r).0 ≡ stepped.Event e) where
-    told : (step_of r).0 ≡ Ok e
-    told = event_told (step_of r).0 e tells
+    answered : (step_of r).0 ≡ Ok e
+    answered = event_answered (step_of r).0 e tells
 
     pub counts_later : ticks_before from to now ≤ ticks_before from to e.time.0
-    counts_later = before_grows from to now e.time.0 (later n seed limits net_is w.events w.state r now w.stands e told)
+    counts_later = before_grows from to now e.time.0 (later n seed limits net_is w.events w.state r now w.stands e answered)
 
     pub event_within : e.time.0 ≤ limits.horizon.0
-    event_within = (stands_on n seed limits net_is w.events w.state r now w.stands e told).within
+    event_within = (stands_on n seed limits net_is w.events w.state r now w.stands e answered).within
 
-    module _ (s : Run) (left : s ≡ after_step r) (m : List ℕ) (seen : m ≡ marking_of s.going) where
+    module _ (s : Run) (left : s ≡ after_step r) (m : List ℕ) (seen : m ≡ marking_of s.run_phase) where
       pub turn_marked : (places : ℕ) → places ≡ length n.initial → IsMarkingOf places m
       turn_marked places long =
-          let on = stands_on n seed limits net_is w.events w.state r now w.stands e told in
-          marked_as places n m _ long (seen ∙ ap (λ (x : Run). marking_of x.going) (left ∙ on.at_state)) on.marking
+          let on = stands_on n seed limits net_is w.events w.state r now w.stands e answered in
+          marked_as places n m _ long (seen ∙ ap (λ (x : Run). marking_of x.run_phase) (left ∙ on.at_state)) on.marking
 
       pub turn_watches : (more present : ℤ) (counted ticks : ℕ) → counted ≡ ticks_before from to now → ticks ≡ ticks_before from to e.time.0
           → more ≡ sum +ℤ value *ℤ pos (ticks - counted) → present ≡ measure m → Watches n seed limits measure from to s more e.time.0 present
       turn_watches more present counted ticks a b counts reads =
-          watches_on n seed limits net_is measure from to r sum now value w e s more present told left
+          watches_on n seed limits net_is measure from to r sum now value w e s more present answered left
           (counts ∙ ap (λ (k : ℕ). sum +ℤ value *ℤ pos (k - counted)) b ∙ ap (λ (k : ℕ). sum +ℤ value *ℤ pos (ticks_before from to e.time.0 - k)) a)
-          (λ t at. reads ∙ ap measure (seen ∙ ap (λ (x : Run). marking_of x.going) at))
+          (λ t at. reads ∙ ap measure (seen ∙ ap (λ (x : Run). marking_of x.run_phase) at))
 
   -- the end
   abbrev all : ℤ
   all = sum_values (value_at measure (net_by n seed limits) w.events) from (to - from)
 
   pub turn_stopped : (why : Stop) → stepped_of (step_of r).0 ≡ stepped.Stopped why → Some (Stopped why) ≡ watched_of n seed limits measure from to
-  turn_stopped why tells = comes_to n seed limits net_is w.events w.state r now w.stands measure from to (ending.Stop why) (stop_told (step_of r).0 why tells)
+  turn_stopped why tells = comes_to n seed limits net_is w.events w.state r now w.stands measure from to (ending.Stop why) (stop_answered (step_of r).0 why tells)
 
   module _ (tells : stepped_of (step_of r).0 ≡ stepped.End) where
     abbrev ended : (h : Tick) × ((step_of r).0 ≡ Err (ending.End h))
-    ended = end_told (step_of r).0 tells
+    ended = end_answered (step_of r).0 tells
 
     pub turn_beyond : limits.horizon.0 + 1 < to → Some Beyond ≡ watched_of n seed limits measure from to
     turn_beyond h = by_test (nat_lt (limits.horizon.0 + 1) to) refl

@@ -10,7 +10,7 @@ use Rattle.san_law.specs.Step.{Event, step}
 use Rattle.san_law.specs.Reward.{marked}
 use Rattle.san_law.specs.Standing.{AllTo}
 use Rattle.san_law.specs.Trajectory.{Runs}
-use Rattle.san_law.proofs.Tallies.{AllAt, marked_end}
+use Rattle.san_law.proofs.Tallies.{AllAt, marked_end, marked_append}
 use Rattle.san_probe.specs.inner.Progress.{sum_until}
 use Rattle.san_probe.specs.Watching.{sum_values, value_at}
 use Rattle.san_probe.specs.inner.Progress.{ticks_before}
@@ -44,11 +44,6 @@ values_constant f v a zero h = times_none v
 values_constant f v a (suc n) h =
     ap (λ x. x +ℤ sum_values f (suc a) n) (h a (omega arith) (omega arith))
     ∙ (ap (λ x. v +ℤ x) (values_constant f v (suc a) n (λ t l k. h t (omega (arith, l)) (omega (arith, k)))) ∙ times_more v n)
-
-marked_append : (net : Net) (s : State) (xs es : List Event) (b t : ℕ) → AllAt b es → t < b → marked net s (xs ++ es) t ≡ marked net s xs t
-marked_append net s [] [] b t all h = refl
-marked_append net s [] (e ∷ es) b t all h = ap (λ q. cond q (marked net (step net s).1 es t) s.marking) (lt-leb e.time t (omega (arith, h, all.0)))
-marked_append net s (x ∷ xs) es b t all h = ap (λ m. cond (nat_le x.time t) m s.marking) (marked_append net (step net s).1 xs es b t all h)
 
 -- ticks of an interval before a time
 before_at : (from to time : ℕ) (b : Bool) → nat_lt time to ≡ b → (cond b time to - from ≤ time - from) × (cond b time to ≤ to)

@@ -14,7 +14,7 @@ use Rattle.san_net.specs.Network.{Network, net_of}
 use Rattle.san_probe.specs.declared.measured.Watched.{Watched}
 use Rattle.san_probe.specs.declared.measured.Watched.TheVariants.{Beyond, Stopped, Sum}
 use Rattle.san_seq.specs.Overs.{limits_in}
-use Rattle.san_seq.specs.Telling.{ending_in}
+use Rattle.san_seq.specs.Outcomes.{ending_in}
 
 -- a sum over so many ticks from one on
 abbrev pub sum_values : (ℕ → ℤ) → ℕ → ℕ → ℤ

@@ -6,7 +6,7 @@ ghost use Rattle.san_probe.specs.Markings.{IsMarkingOf};
 
 use std::marker::Model;
 
-/// What a gauge reads off a marking. It has a meaning alone, which is told by contracts.
+/// What a gauge reads off a marking. It has a meaning alone, of which contracts speak.
 pub trait Measure {
     /// A whole number for each marking.
     ghost value: { Self → List ℕ → ℤ };

@@ -2,6 +2,7 @@
 
 ghost use Rattle.std.specs.Prelude.{◌≡◌, ◌+◌, ◌-◌, ◌+ℤ◌, ◌*ℤ◌, ◌*◌, ◌≤◌, ◌^◌, Some, IfOk, length, pos, unsigned_abs};
 ghost use Rattle.san_base.specs.Limits.{IsInRange};
+ghost use Rattle.san_base.specs.declared.limits.TheConstants.{MAX_TICKS};
 ghost use Rattle.san_probe.specs.Watching.{watched_of};
 ghost use Rattle.san_probe.specs.inner.Progress.{ticks_before};
 
@@ -42,7 +43,7 @@ fn ticks_before(from: Tick, to: Tick, time: u64) -> u64
 
 /// A value that stays for so many ticks.
 fn times(value: i64, ticks: u64) -> i128
-    requires few { ticks ≤ 2 ^ 40 }
+    requires few { ticks ≤ MAX_TICKS }
     ensures value { result ≡ value *ℤ pos ticks }
     ensures small { unsigned_abs result ≤ ticks * 2 ^ 63 }
 {
@@ -53,7 +54,7 @@ fn times(value: i64, ticks: u64) -> i128
 fn accrue(progress: Progress, counted: u64) -> i128
     requires sum { unsigned_abs progress.sum ≤ progress.counted * 2 ^ 63 }
     requires later { progress.counted ≤ counted }
-    requires few { counted ≤ 2 ^ 40 }
+    requires few { counted ≤ MAX_TICKS }
     ensures sum { result ≡ progress.sum +ℤ progress.value *ℤ pos (counted - progress.counted) }
     ensures small { unsigned_abs result ≤ counted * 2 ^ 63 }
 {

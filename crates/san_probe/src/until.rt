@@ -6,7 +6,7 @@ ghost use Rattle.san_probe.specs.Markings.{IsMarkingOf};
 
 use std::marker::Model;
 
-/// What is asked of a marking. It has a meaning alone, which is told by contracts.
+/// What is asked of a marking. It has a meaning alone, of which contracts speak.
 pub trait Condition {
     /// Whether it holds in a marking.
     ghost holds: { Self → List ℕ → Bool };

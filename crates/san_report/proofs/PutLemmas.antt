@@ -2,14 +2,14 @@
 use Rattle.std.proofs.Common.{ℕ, ◌-◌, ◌≤◌, ◌≡◌, ◌∙◌, ap, sym, List, [], ◌∷◌, ◌++◌, length, map, take, drop, Bor, Bool, true, false, Option, Some, append_assoc, arith, slice_index_or}
 use Rattle.std.proofs.lemmas.List.{take_all}
 use Rattle.san_report.specs.Lines.{joined}
-use Rattle.san_base.specs.Flow.{Rose}
+use Rattle.san_base.specs.Flow.{CountRose}
 use Rattle.san_base.proofs.FlowLemmas.{appends_nothing, appends_both}
 use Rattle.san_report.specs.Puts.{Wrote}
 
 pub wrote_none : (a : Option (List ℕ)) (f : ℕ) → Wrote true a a f f []
 wrote_none a f = record { bytes_put = appends_nothing a; cause = tt; later = omega arith }
 
-rose_later : (f g h : ℕ) → f ≤ g → Rose g h → Rose f h
+rose_later : (f g h : ℕ) → f ≤ g → CountRose g h → CountRose f h
 rose_later f g h le r = omega (arith, le, r)
 
 -- a piece, and then more pieces, or a part of them

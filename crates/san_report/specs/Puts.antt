@@ -1,6 +1,6 @@
--- What writing pieces into a sink does, and of what it may be told.
+-- What writing pieces into a sink does, and what its answers mean.
 use Rattle.std.specs.Prelude.{ℕ, ◌<◌, ◌≤◌, Bool, List, Option, MatchBool}
-use Rattle.san_base.specs.Flow.{Appends, AppendsPrefix, Rose}
+use Rattle.san_base.specs.Flow.{Appends, AppendsPrefix, CountRose}
 use Rattle.san_base.specs.declared.ending.Ending.{Ending}
 use Rattle.san_base.specs.declared.ending.Ending.TheVariants as ending
 use Rattle.san_base.specs.declared.ending.Stop.{Stop}
@@ -11,7 +11,7 @@ use Rattle.san_net.specs.Network.{Network}
 -- all of these bytes were appended, or a prefix of them was and the count of faults rose
 pub record Wrote (done : Bool) (old new : Option (List ℕ)) (before now : ℕ) (bytes : List ℕ) : Type 0 where
   pub bytes_put : MatchBool done (Appends old new bytes) (AppendsPrefix old new bytes)
-  pub cause : MatchBool done (Unit {0}) (Rose before now)
+  pub cause : MatchBool done (Unit {0}) (CountRose before now)
   pub later : before ≤ now
 
 -- a trap is one of the network's activities

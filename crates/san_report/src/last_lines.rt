@@ -1,7 +1,7 @@
 //! The lines that end a report: the ending, and what each reward is worth.
 
 ghost use Rattle.std.specs.Prelude.{◌≡◌, ◌≤◌, ◌<◌, ◌++◌, List, ℕ, Option, MatchBool, length};
-ghost use Rattle.san_base.specs.Flow.{Appends, AppendsPrefix, Rose};
+ghost use Rattle.san_base.specs.Flow.{Appends, AppendsPrefix, CountRose};
 ghost use Rattle.san_report.specs.Puts.{EndsIn};
 ghost use Rattle.san_report.specs.Closings.{closing, worths_by};
 ghost use Rattle.san_report.specs.Pages.{Sent};
@@ -37,7 +37,7 @@ fn put_rewards<K: Sink>(
         (reward_lines flat.now.rewards 0 (worths_by tally.now ending) ++ rest)
         → MatchBool result (Sent first (K.held sink.new) pages.new whole rest)
         (AppendsPrefix first (K.held sink.new) whole) }
-    ensures cause { MatchBool result (Unit {0}) (Rose (K.faults sink.old) (K.faults sink.new)) }
+    ensures cause { MatchBool result (Unit {0}) (CountRose (K.faults sink.old) (K.faults sink.new)) }
     ensures later { K.faults sink.old ≤ K.faults sink.new }
 {
     flat.is_network();
@@ -66,7 +66,7 @@ pub fn close<K: Sink>(
         → Sent first (K.held sink.old) pages.old whole (closing flat.now tally.now count ending)
         → MatchBool result (Appends first (K.held sink.new) whole)
         (AppendsPrefix first (K.held sink.new) whole) }
-    ensures cause { MatchBool result (Unit {0}) (Rose (K.faults sink.old) (K.faults sink.new)) }
+    ensures cause { MatchBool result (Unit {0}) (CountRose (K.faults sink.old) (K.faults sink.new)) }
     ensures later { K.faults sink.old ≤ K.faults sink.new }
 {
     if !pages.put(sink, flat, Line::Ending(count, ending)) {

@@ -1,7 +1,7 @@
 //! The lines of a report on their way to a sink, which gets them page by page.
 
 ghost use Rattle.std.specs.Prelude.{◌≡◌, ◌≤◌, ◌++◌, List, ℕ, [], Option, MatchBool, IfOk};
-ghost use Rattle.san_base.specs.Flow.{AppendsPrefix, Rose};
+ghost use Rattle.san_base.specs.Flow.{AppendsPrefix, CountRose};
 ghost use Rattle.san_report.specs.Puts.{Wrote};
 ghost use Rattle.san_report.specs.Pages.{IsIn, Sent, line_of};
 
@@ -43,7 +43,7 @@ fn flush<K: Sink>(page: &mut SureSink, sink: &mut K) -> bool
         → MatchBool result (Sent first (K.held sink.new) [] whole rest)
         (AppendsPrefix first (K.held sink.new) whole) }
     ensures empty { MatchBool result (page.new.held ≡ []) (Unit {0}) }
-    ensures cause { MatchBool result (Unit {0}) (Rose (K.faults sink.old) (K.faults sink.new)) }
+    ensures cause { MatchBool result (Unit {0}) (CountRose (K.faults sink.old) (K.faults sink.new)) }
     ensures later { K.faults sink.old ≤ K.faults sink.new }
 {
     let gone = put_all(sink, page.bytes());
@@ -60,7 +60,7 @@ fn keep<K: Sink>(page: &mut SureSink, sink: &mut K, bytes: &[u8]) -> bool
         → Sent first (K.held sink.old) page.old.held whole (bytes.now ++ rest)
         → MatchBool result (Sent first (K.held sink.new) page.new.held whole rest)
         (AppendsPrefix first (K.held sink.new) whole) }
-    ensures cause { MatchBool result (Unit {0}) (Rose (K.faults sink.old) (K.faults sink.new)) }
+    ensures cause { MatchBool result (Unit {0}) (CountRose (K.faults sink.old) (K.faults sink.new)) }
     ensures later { K.faults sink.old ≤ K.faults sink.new }
 {
     if bytes.len() <= page.room() {
@@ -84,7 +84,7 @@ fn put_straight<K: Sink>(page: &mut SureSink, sink: &mut K, flat: &Flat, line: L
         → Sent first (K.held sink.old) page.old.held whole (line_of flat.now line.entry ++ rest)
         → MatchBool result (Sent first (K.held sink.new) page.new.held whole rest)
         (AppendsPrefix first (K.held sink.new) whole) }
-    ensures cause { MatchBool result (Unit {0}) (Rose (K.faults sink.old) (K.faults sink.new)) }
+    ensures cause { MatchBool result (Unit {0}) (CountRose (K.faults sink.old) (K.faults sink.new)) }
     ensures later { K.faults sink.old ≤ K.faults sink.new }
 {
     if !flush(page, sink) {
@@ -126,7 +126,7 @@ impl Pages {
             → MatchBool result (Sent first (K.held sink.new) [] whole rest)
             (AppendsPrefix first (K.held sink.new) whole) }
         ensures empty { MatchBool result (self.new ≡ []) (Unit {0}) }
-        ensures cause { MatchBool result (Unit {0}) (Rose (K.faults sink.old) (K.faults sink.new)) }
+        ensures cause { MatchBool result (Unit {0}) (CountRose (K.faults sink.old) (K.faults sink.new)) }
         ensures later { K.faults sink.old ≤ K.faults sink.new }
     {
         flush(&mut self.page, sink)
@@ -140,7 +140,7 @@ impl Pages {
             → Sent first (K.held sink.old) self.old whole (line_of flat.now line.entry ++ rest)
             → MatchBool result (Sent first (K.held sink.new) self.new whole rest)
             (AppendsPrefix first (K.held sink.new) whole) }
-        ensures cause { MatchBool result (Unit {0}) (Rose (K.faults sink.old) (K.faults sink.new)) }
+        ensures cause { MatchBool result (Unit {0}) (CountRose (K.faults sink.old) (K.faults sink.new)) }
         ensures later { K.faults sink.old ≤ K.faults sink.new }
     {
         self.line.clear();

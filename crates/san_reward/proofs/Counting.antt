@@ -9,7 +9,7 @@ use Rattle.san_law.specs.Net.{Rated, Span}
 use Rattle.san_law.specs.Reward.{no_span, plus, rates_sum, span_of, sum_ticks, sum_worth, tick_sum, worth_by, zero_sum}
 use Rattle.san_law.specs.Reward as law
 use Rattle.san_law.specs.Tally.{going_on, sum_of, sums_from, tally_worth}
-use Rattle.san_law.proofs.Tallies.{plus_last}
+use Rattle.san_law.proofs.Tallies.{plus_last, sums_long, sums_at}
 use Rattle.san_reward.specs.Smallness.{IsAtMost}
 use Rattle.san_reward.specs.inner.Present.{counted_on, accrued, no_present, overlap, present_at, shown, times}
 use Rattle.san_reward.specs.inner.Counted.{IsCounted}
@@ -19,16 +19,6 @@ use Rattle.san_net.specs.declared.part.Span as interval
 use Rattle.san_reward.specs.declared.present.Present.{Present}
 use Rattle.san_reward.proofs.Adding.{rates_shown, ticks_are}
 use Rattle.san_reward.proofs.Smallness.{all_at_most, gone_at_most, wider}
-
--- the sums of a list by number
-pub sums_long : (f : ℕ → Rated → Rated) (a : ℕ) (ss : List Rated) → length (sums_from f a ss) ≡ length ss
-sums_long f a [] = refl
-sums_long f a (s ∷ ss) = ap suc (sums_long f (suc a) ss)
-
-pub sums_at : (f : ℕ → Rated → Rated) (a m i : ℕ) (ss : List Rated) → i < length ss → m ≡ a + i → slice_index_or (sums_from f a ss) i zero_sum ≡ f m (slice_index_or ss i zero_sum)
-sums_at f a m i [] h e = absurd (omega (arith, h))
-sums_at f a m zero (s ∷ ss) h e = let k : a ≡ m = omega (arith, e) in ap (λ r. f r s) k
-sums_at f a m (suc i) (s ∷ ss) h e = sums_at f (suc a) m i ss (omega (arith, h)) (omega (arith, e))
 
 pub sums_like : (f g : ℕ → Rated → Rated) (a : ℕ) (ss : List Rated) → ((r : ℕ) (s : Rated) → r < a + length ss → f r s ≡ g r s) → sums_from f a ss ≡ sums_from g a ss
 sums_like f g a [] h = refl
@@ -176,7 +166,7 @@ advanced_counted t present to sums c h l e = subst (λ ss. IsCounted (with_sums 
 
 -- all sums are far inside 128 bits
 pub sum_fits : (t : Running) (present : List Present) (r : ℕ) → IsCounted t present → IsAtMost (2 ^ 120) (sum_of t.tally r)
-sum_fits t present r c = let low = c.time in let top = c.horizon in let told = c.impulses in wider (t.time * 2 ^ 79 + t.tally.impulses * 2 ^ 63) (2 ^ 120) (sum_of t.tally r) (omega (arith, low, top, told)) (c.small r)
+sum_fits t present r c = let low = c.time in let top = c.horizon in let given = c.impulses in wider (t.time * 2 ^ 79 + t.tally.impulses * 2 ^ 63) (2 ^ 120) (sum_of t.tally r) (omega (arith, low, top, given)) (c.small r)
 
 -- the same of a value that a tally is seen as
 pub advance_ends : (t u : Running) (present : List Present) (to : ℕ) (sums : List Rated) → u ≡ t → IsCounted t present → u.time ≤ to → sums ≡ sums_from (counted_on t.spans present t.time to) 0 t.tally.sums → with_sums t to sums ≡ advanced u to

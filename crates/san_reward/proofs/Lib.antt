@@ -3,7 +3,7 @@ pub mod Adding
 pub mod Counting
 pub mod Setting
 pub mod Making
-pub mod Telling
+pub mod Sameness
 pub mod Equality
 pub mod Impulses
 pub mod CellsRead

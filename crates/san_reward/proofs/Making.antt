@@ -67,7 +67,7 @@ no_faults : (r : ℕ) (parts : List Part) → faults r (map terms_in parts) (map
 no_faults r [] = refl
 no_faults r (p ∷ parts) = ap (λ x. x + faults r (map terms_in parts) (map no_rates parts)) (no_fault_in r (terms_in p) (length p.atomic.rates)) ∙ ap (λ x. 0 + x) (no_faults r parts)
 
-zeros_read : (n r : ℕ) → slice_index_or (replicate n zero_sum) r zero_sum ≡ zero_sum
+pub zeros_read : (n r : ℕ) → slice_index_or (replicate n zero_sum) r zero_sum ≡ zero_sum
 zeros_read zero r = refl
 zeros_read (suc n) zero = refl
 zeros_read (suc n) (suc r) = zeros_read n r

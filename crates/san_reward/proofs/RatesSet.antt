@@ -13,6 +13,7 @@ use Rattle.san_law.specs.Reward.{rates_from, zero_sum}
 use Rattle.san_law.specs.State.{gather}
 use Rattle.san_law.specs.State as state
 use Rattle.san_law.proofs.Tallies.{rates_are}
+use Rattle.san_net.proofs.LaidLemmas.{place_in, places_in}
 use Rattle.san_net.specs.Laid.{IsNetwork, place_of, places_of}
 use Rattle.san_net.specs.Leaf.{leaf_of, rate_in, slot_in}
 use Rattle.san_net.specs.Network.{Network, net_of}
@@ -95,20 +96,11 @@ module _ (t : Running) (all : List (List Rated)) where
   pub leaves_end : (n : ℕ) (u : Running) → u ≡ leaves_so_far n → length all ≡ length t.tally.rates → length all ≤ n → u ≡ with_all_rates t all
   leaves_end n u is long h = is ∙ ap (with_all_rates t) (all_done all t.tally.rates n h (omega (arith, h, long)))
 
--- these are the law's
-place_same : (s : Slot) → state.place_of (slot_in s) ≡ place_of s
-place_same (Private place) = refl
-place_same (Shared place) = refl
-
-places_same : (slots : List Slot) → map state.place_of (map slot_in slots) ≡ map place_of slots
-places_same [] = refl
-places_same (s ∷ ss) = ap (λ p. p ∷ map state.place_of (map slot_in ss)) (place_same s) ∙ ap (λ ps. place_of s ∷ ps) (places_same ss)
-
 module _ (marking : List ℕ) where
   leaf_rates : (parts : List Part) (i : ℕ) → i < length parts
       → slice_index_or (map (rates_of marking) parts) i [] ≡ (slice_index_or (map leaf_of parts) i law.no_part).rates (gather (map state.place_of (slice_index_or (map (λ (p : leaf.Part). p.slots) (map leaf_of parts)) i [])) marking)
   leaf_rates [] i h = absurd (omega (arith, h))
-  leaf_rates (p ∷ parts) zero h = ap (λ ps. map (rate_in (gather ps marking)) p.atomic.rates) (sym (places_same p.slots))
+  leaf_rates (p ∷ parts) zero h = ap (λ ps. map (rate_in (gather ps marking)) p.atomic.rates) (sym (places_in p.slots))
   leaf_rates (p ∷ parts) (suc i) h = leaf_rates parts i (omega (arith, h))
 
   pub rates_law : (n : Network) (draw : ℕ → ℕ → ℕ) (limits : law.Limits) → rates_in n marking ≡ rates_from (net_of n draw limits) 0 (net_of n draw limits).parts marking
@@ -136,7 +128,7 @@ module _ (n : Network) (j : ℕ) (p : Part) (is : slice_get n.parts j ≡ Some p
       inside = let many = length-map n.parts leaf_of in omega (arith, h, many)
 
       here : map state.place_of (slice_index_or (map (λ (q : leaf.Part). q.slots) (map leaf_of n.parts)) j []) ≡ places_of p
-      here = ap (map state.place_of) (get_or-map (λ (q : leaf.Part). q.slots) (map leaf_of n.parts) j law.no_part [] inside ∙ ap (λ (q : leaf.Part). q.slots) (get_or-map leaf_of n.parts j p law.no_part h ∙ ap leaf_of (got n.parts j p is))) ∙ places_same p.slots
+      here = ap (map state.place_of) (get_or-map (λ (q : leaf.Part). q.slots) (map leaf_of n.parts) j law.no_part [] inside ∙ ap (λ (q : leaf.Part). q.slots) (get_or-map leaf_of n.parts j p law.no_part h ∙ ap leaf_of (got n.parts j p is))) ∙ places_in p.slots
 
   -- its terms' cells are its own
   pub terms_within : IsNetwork n → All (λ t. IsTrue (places_below t.expr (length p.slots))) p.atomic.rates

@@ -1,4 +1,4 @@
--- One rate set, and one impulse told.
+-- One rate set, and one impulse counted.
 use Rattle.std.proofs.Common.{ℕ, zero, suc, ◌+◌, ◌-◌, ◌*◌, ◌^◌, ◌<◌, ◌≤◌, ◌≡◌, ◌≢◌, ◌⊎◌, inl, inr, ◌∙◌, ap, sym, refl, subst, List, [], ◌∷◌, arith, None, nat_lt, nat_eq, Bool, true, false, slice_index_or, slice_set, length, map}
 use Rattle.san_base.specs.declared.limits.TheConstants.{MAX_IMPULSES, MAX_LEAVES}
 use Rattle.std.specs.Prelude.{ℤ, pos, ◌+ℤ◌, ◌-ℤ◌, All, if◌then◌else◌}
@@ -171,7 +171,7 @@ rate_counted t present j k q w v c h m small e is = record {
     by_reward r l (inl s) = rw s.1 (get_or-set_same present q (replaced (present_at present q) v w) no_present (omega (arith, within, c.sized)) ∙ (ap (λ p. replaced p v w) (c.each q within) ∙ (ap (λ u. replaced (present_of q t.terms t.tally.rates) u w) is ∙ sym (same_reward k j q w t.terms t.tally.rates e h many m long))))
     by_reward r l (inr s) = get_or-set_other present q r (replaced (present_at present q) v w) no_present s.1 ∙ (c.each r l ∙ sym (other_reward k j q w t.terms t.tally.rates e h many m long r s.1))
 
--- an impulse told
+-- an impulse counted
 pub impulse_counted : (t : Running) (present : List Present) (r : ℕ) (w : Rated) → IsCounted t present → t.tally.impulses < MAX_IMPULSES → IsAtMost (2 ^ 63) w → IsCounted (with_impulse t r w) present
 impulse_counted t present r w c few h = record {
   horizon = c.horizon;
@@ -208,8 +208,8 @@ impulse_counted t present r w c few h = record {
     by_reward s (inr d) = rw (get_or-set_other t.tally.sums r s (plus (sum_of t.tally r) added) zero_sum d.1) (wider (t.time * 2 ^ 79 + t.tally.impulses * 2 ^ 63) bound (sum_of t.tally s) (omega arith) (c.small s))
 
 -- a tally with these sums and an impulse more
-abbrev pub with_told : Running → List Rated → Running
-with_told t sums = record t { tally = record { rates = t.tally.rates; sums = sums; impulses = t.tally.impulses + 1 } }
+abbrev pub with_counted : Running → List Rated → Running
+with_counted t sums = record t { tally = record { rates = t.tally.rates; sums = sums; impulses = t.tally.impulses + 1 } }
 
 -- the reward of a term that is set, and the rate before
 module _ (t u : Running) (present : List Present) (j k : ℕ) (e : u ≡ t) (c : IsCounted t present) (h : j < length u.terms) (m : k < length (slice_index_or u.terms j [])) where
@@ -247,15 +247,15 @@ module _ (t u : Running) (present : List Present) (j k : ℕ) (e : u ≡ t) (c :
 
 -- an impulse's reward is one of them
 module _ (t u : Running) (present : List Present) (r : ℕ) (w added : Rated) (s : interval.Span) (spans : List interval.Span) (sums : List Rated) (e : u ≡ t) (c : IsCounted t present) (h : r < length u.spans) (f : t.spans ≡ map span_in spans) (a : s ≡ slice_index_or spans r s) (is : added ≡ counted_at (span_in s) t.time w) (puts : sums ≡ slice_set t.tally.sums r (plus (sum_of t.tally r) added)) where
-  told_sums : sums ≡ slice_set t.tally.sums r (plus (sum_of t.tally r) (counted_at (span_of (net_in t) r) t.time w))
-  told_sums =
+  counted_sums : sums ≡ slice_set t.tally.sums r (plus (sum_of t.tally r) (counted_at (span_of (net_in t) r) t.time w))
+  counted_sums =
       let many = ap (λ (x : Running). length x.spans) e in
       let size = ap length f ∙ length-map spans span_in in
       let span : span_in s ≡ span_of (net_in t) r = ap span_in a ∙ (span_at spans r s (omega (arith, h, many, size)) ∙ ap (λ ss. slice_index_or ss r no_span) (sym f)) in
       puts ∙ ap (λ x. slice_set t.tally.sums r (plus (sum_of t.tally r) x)) (is ∙ ap (λ x. counted_at x t.time w) span)
 
-  pub impulse_ends : with_told t sums ≡ with_impulse u r w
-  impulse_ends = ap (with_told t) told_sums ∙ ap (λ x. with_impulse x r w) (sym e)
+  pub impulse_ends : with_counted t sums ≡ with_impulse u r w
+  impulse_ends = ap (with_counted t) counted_sums ∙ ap (λ x. with_impulse x r w) (sym e)
 
-  pub impulse_keeps : u.tally.impulses < MAX_IMPULSES → IsAtMost (2 ^ 63) w → IsCounted (with_told t sums) present
-  impulse_keeps few small = let same = ap (λ (x : Running). x.tally.impulses) e in subst (λ ss. IsCounted (with_told t ss) present) (sym told_sums) (impulse_counted t present r w c (omega (arith, few, same)) small)
+  pub impulse_keeps : u.tally.impulses < MAX_IMPULSES → IsAtMost (2 ^ 63) w → IsCounted (with_counted t sums) present
+  impulse_keeps few small = let same = ap (λ (x : Running). x.tally.impulses) e in subst (λ ss. IsCounted (with_counted t ss) present) (sym counted_sums) (impulse_counted t present r w c (omega (arith, few, same)) small)

@@ -121,13 +121,13 @@ module _ (net : Net) (r : ℕ) where
         (sum_at_most (terms_in r (net.terms i) * MAX_RATED) (length ps * (16 * MAX_RATED)) (leaf_sum r (net.terms i) ws) (rates_sum net r (suc i) rest) (leaf_small r (net.terms i) ws (rated i (gather (map place_of p) m))) (rates_small (suc i) ps m))
 
     sum_small : (opening : State) (es : List Event) → length net.parts ≤ MAX_LEAVES → (span_of net r).to ≤ MAX_HORIZON + 1 → impulses_in es ≤ MAX_EVENTS * 1024 → AreRated es → IsAtMost (2 ^ 96) (reward_sum net r opening es)
-    sum_small opening es leaves low told h =
+    sum_small opening es leaves low given h =
         let s = span_of net r in
         let n = s.to - s.from in
         let f = marked_sum net r opening es in
         let tick : (t : ℕ) → IsAtMost (MAX_LEAVES * (16 * MAX_RATED)) (f t) =
         λ t. wider (length net.parts * (16 * MAX_RATED)) (MAX_LEAVES * (16 * MAX_RATED)) (f t) (omega (arith, leaves)) (rates_small 0 net.parts (marked net opening es t)) in
-        wider (n * (MAX_LEAVES * (16 * MAX_RATED)) + impulses_in es * MAX_RATED) (2 ^ 96) (reward_sum net r opening es) (omega (arith, low, told))
+        wider (n * (MAX_LEAVES * (16 * MAX_RATED)) + impulses_in es * MAX_RATED) (2 ^ 96) (reward_sum net r opening es) (omega (arith, low, given))
         (sum_at_most (n * (MAX_LEAVES * (16 * MAX_RATED))) (impulses_in es * MAX_RATED) (sum_ticks f s.from n) (events_sum net r es) (ticks_small f (MAX_LEAVES * (16 * MAX_RATED)) tick s.from n) (events_small es h))
 
 -- what a small sum is worth
@@ -152,9 +152,9 @@ span_small (s ∷ ss) zero h = h 0 no_span (omega arith)
 span_small (s ∷ ss) (suc r) h = span_small ss r (λ k d l. h (suc k) d (omega (arith, l)))
 
 pub small_worth : (n : Network) (draw : ℕ → ℕ → ℕ) (limits : Limits) (opening : State) (es : List Event) (r : ℕ) → IsNetwork n → impulses_in es ≤ MAX_EVENTS * 1024 → AreRated es → IsSmallWorth (worth (net_of n draw limits) r opening es)
-small_worth n draw limits opening es r is told h =
+small_worth n draw limits opening es r is given h =
     let net = net_of n draw limits in
     let few = few_at r n.parts (λ k p e. (let a = (is.accepted k p e).terms r in let b = few_in r (map (λ t. t.reward) p.atomic.rates) (map (λ t. t.reward) p.atomic.impulses) in omega (arith, a, b))) in
     let many : length net.parts ≤ MAX_LEAVES = let leaves = is.small.leaves in omega (arith, leaves, length-map n.parts leaf_of, length-map (map leaf_of n.parts) (λ p. p.slots)) in
     worth_by_small net.horizon (span_of net r) (reward_sum net r opening es)
-    (sum_small net r few (rated_at n.parts) opening es many (span_small net.spans r (spans_low n.rewards is.rewarded.spans)) told h)
+    (sum_small net r few (rated_at n.parts) opening es many (span_small net.spans r (spans_low n.rewards is.rewarded.spans)) given h)

@@ -1,4 +1,4 @@
--- A leaf that counts its completions at 3, 6 and 9, told to a tally.
+-- A leaf that counts its completions at 3, 6 and 9, counted by a tally.
 use Rattle.std.specs.Prelude.{ℕ, pos, Some}
 use Rattle.san_law.specs.Net.{Rated}
 use Rattle.san_law.specs.Reward.{Worth}

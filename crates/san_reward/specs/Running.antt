@@ -51,7 +51,7 @@ pub record IsOf (net : Net) (t : Running) : Type 0 where
 abbrev pub terms_in : Part → List ℕ
 terms_in p = map (λ t. t.reward) p.atomic.rates
 
--- the values of a leaf's rate terms in a marking, as they are told, and those of all leaves
+-- the values of a leaf's rate terms in a marking, as they are counted, and those of all leaves
 abbrev pub rates_of : List ℕ → Part → List Rated
 rates_of marking p = map (rate_in (gather (places_of p) marking)) p.atomic.rates
 
@@ -103,7 +103,7 @@ with_impulse t r w = record t {
   };
 }
 
--- impulses told one after another
+-- impulses counted one after another
 abbrev pub with_impulses : Running → List Impulse → Running
 with_impulses t [] = t
 with_impulses t (x ∷ xs) = with_impulses (with_impulse t x.reward x.rated) xs

@@ -14,7 +14,7 @@ ghost use Rattle.san_reward.specs.Smallness.{AreRated, IsSmallWorth};
 ghost use Rattle.san_reward.specs.Running.{IsOf, Running, advanced, net_in, opened, with_impulses};
 
 /// A tally that is opened on a network counts this network's rewards, whatever the draws.
-#[tactic(auto, using(crate::proofs::Telling::opened_of))]
+#[tactic(auto, using(crate::proofs::Sameness::opened_of))]
 pub fn an_opened_tally_is_of_its_network()
     ensures { (n : Network) (draw : ℕ → ℕ → ℕ) (limits : Limits)
         → IsOf (net_of n draw limits) (opened n limits.horizon) }
@@ -22,7 +22,7 @@ pub fn an_opened_tally_is_of_its_network()
 
 /// What a tally counts as time goes on, and what its rewards are worth, is what the law says of the
 /// network.
-#[tactic(auto, using(crate::proofs::Telling::advance_same, crate::proofs::Telling::worth_same))]
+#[tactic(auto, using(crate::proofs::Sameness::advance_same, crate::proofs::Sameness::worth_same))]
 pub fn a_tally_counts_its_networks_rewards()
     ensures advance { (net : Net) (t : Running) → IsOf net t → (to : ℕ)
         → tally_after net t.tally t.time to [] ≡ (advanced t to).tally }
@@ -30,7 +30,7 @@ pub fn a_tally_counts_its_networks_rewards()
         → tally_worth net t.tally t.time r ≡ tally_worth (net_in t) t.tally t.time r }
 {}
 
-/// Impulses that are told one after another at an event's time are what the law counts of the event.
+/// Impulses that are counted one after another at an event's time are what the law counts of the event.
 #[tactic(auto, using(crate::proofs::Impulses::event_same))]
 pub fn impulses_are_those_of_the_event()
     ensures { (net : Net) (t : Running) → IsOf net t → (e : Event) → e.time ≡ t.time
@@ -38,7 +38,7 @@ pub fn impulses_are_those_of_the_event()
 {}
 
 /// The sum of a reward or of a mean is within 2^96 either way, where the events are as few as a run
-/// may have and tell values of terms: ten thousand of them are summed in 128 bits.
+/// may have and count values of terms: ten thousand of them are summed in 128 bits.
 pub fn worths_are_small()
     ensures { (n : Network) (draw : ℕ → ℕ → ℕ) (limits : Limits) (opening : State) (es : List Event)
         (r : ℕ) → IsNetwork n → impulses_in es ≤ MAX_EVENTS * 1024 → AreRated es

@@ -1,6 +1,6 @@
 //! The present rates of a reward, and how its sum accrues.
 
-ghost use Rattle.san_base.specs.declared.limits.TheConstants.{MAX_HORIZON};
+ghost use Rattle.san_base.specs.declared.limits.TheConstants.{MAX_HORIZON, MAX_TICKS};
 ghost use Rattle.std.specs.Prelude.{◌≡◌, ◌<◌, ◌≤◌, ◌^◌, ℕ, length, map, unsigned_abs};
 ghost use Rattle.san_law.specs.Reward.{is_within, plus, zero_sum};
 ghost use Rattle.san_law.specs.Tally.{sums_from};
@@ -54,7 +54,7 @@ pub(crate) fn overlap(span: Span, from: u64, to: u64) -> u64
 pub(crate) fn accrue(sum: Option<i128>, present: Present, ticks: u64) -> Option<i128>
     requires sum { IsAtMost (2 ^ 120) sum }
     requires present { unsigned_abs present.sum ≤ 2 ^ 79 }
-    requires ticks { ticks ≤ 2 ^ 40 }
+    requires ticks { ticks ≤ MAX_TICKS }
     ensures { result ≡ accrued sum present ticks }
 {
     if ticks == 0 {
@@ -134,7 +134,7 @@ pub(crate) fn count_on(
 )
     requires present { length present.now.items ≡ length sums.old.items }
     requires spans { length spans.now.items ≡ length sums.old.items }
-    requires ticks { to ≤ from + 2 ^ 40 }
+    requires ticks { to ≤ from + MAX_TICKS }
     requires spanned { All (λ s. s.to ≤ MAX_HORIZON + 1) (map span_in spans.now.items) }
     requires small { (r : ℕ) → IsAtMost (2 ^ 120) (slice_index_or sums.old.items r zero_sum) }
     requires rates { (r : ℕ) → unsigned_abs (present_at present.now.items r).sum ≤ 2 ^ 79 }

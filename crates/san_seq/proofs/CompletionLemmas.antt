@@ -16,7 +16,7 @@ use Rattle.san_net.specs.declared.activity.Activity.{Activity}
 use Rattle.san_net.specs.declared.part.Part.{Part}
 use Rattle.san_net.specs.declared.part.Slot.{Slot}
 use Rattle.san_seq.specs.inner.Completions.{left_by}
-use Rattle.san_seq.specs.inner.Views.{Seen, sight_of}
+use Rattle.san_seq.specs.inner.Views.{Seen, view_state_of}
 use Rattle.san_seq.proofs.ViewLemmas.{called}
 
 module _ (places m after : List ℕ) where
@@ -32,7 +32,7 @@ module _ (places m after : List ℕ) where
       (is ∙ ap (scatter places (gather places m)) left ∙ scatter_twice places (gather places m) o.left m ∙ scatter_same places m)
 
 module _ (p : Part) (slots : List Slot) (m : List ℕ) (s t : Seen) (slot : slots ≡ p.slots) (places : s.places ≡ map place_of slots) (marking : s.marking ≡ m) (a : Activity) (u : ℕ)
-    (r : Result ℕ Trap) (did : Meets (sight_of s) (sight_of t) (completion_of u a) r) where
+    (r : Result ℕ Trap) (did : Meets (view_state_of s) (view_state_of t) (completion_of u a) r) where
   abbrev done : Outcome ℕ
   done = completion_of u a (gather (places_of p) m)
 

@@ -5,7 +5,7 @@ use Rattle.std.proofs.lemmas.Bool.{eqb-true}
 use Rattle.std.proofs.lemmas.List.{get_or-set_other}
 use Rattle.std.proofs.lemmas.Option.{slice_get_within}
 use Rattle.san_base.specs.declared.ending.Trap.{Trap}
-use Rattle.san_law.proofs.Places.{scatter_at}
+use Rattle.san_law.proofs.Places.{scatter_at, scatter_length}
 use Rattle.san_law.specs.Lawful.{AllBelow, IsLaid, IsLawful}
 use Rattle.san_law.specs.Net.{Done, Faulty, Fresh, Found, Net, Nothing, Renewing, Row, no_row, without_timer}
 use Rattle.san_law.specs.Network.{Limits as Bounds}
@@ -21,16 +21,15 @@ use Rattle.san_law.specs.Clocks.{renewed_row}
 use Rattle.san_seq.specs.inner.Known.{AreFresh, AreIdle, AreQuiet, AreSettled, HaveNothing, HaveSame, IsIdle, TouchedAll}
 use Rattle.san_seq.specs.inner.Nexts.{first_by, first_from, first_of_part, next_among}
 use Rattle.san_seq.specs.inner.States.{instant_in}
-use Rattle.san_seq.specs.Telling.{told_of}
+use Rattle.san_seq.specs.Outcomes.{event_or_ending}
 use Rattle.san_seq.specs.inner.Renewals.{renewed_part}
 use Rattle.san_seq.specs.inner.Rows.{row_at}
 use Rattle.san_base.specs.declared.ending.Ending.{Ending}
 use Rattle.san_base.specs.declared.ending.Event.{Event}
-use Rattle.san_seq.proofs.ToldLemmas.{Told, happened, told_by}
+use Rattle.san_seq.proofs.AnswerLemmas.{Happening, happened, happening_by}
 use Rattle.san_seq.proofs.NextLemmas.{cut}
 use Rattle.san_net.proofs.PartLemmas.{lies_over, places_are}
 use Rattle.san_seq.proofs.RowLemmas.{part_renewed}
-use Rattle.san_seq.proofs.RunningLemmas.{scattered}
 use Rattle.san_seq.proofs.TouchLemmas.{gather_at}
 use Rattle.san_net.proofs.CellLemmas.{gather_eq}
 
@@ -125,26 +124,26 @@ pub record Moved (net : Net) (j : ℕ) (u v : State) : Type 0 where
   pub stable : v.stable ≡ u.stable
   pub rows : v.rows ≡ slice_set u.rows j row
 
-complete_moved : (net : Net) (u : State) (burst j k : ℕ) (r : Result Done Trap) (t : Told) → told_by (law.complete net u burst j k r).0 ≡ Ok t → Moved net j u (law.complete net u burst j k r).1
-complete_moved net u burst j k (Err trap) t told = absurd cc
-complete_moved net u burst j k (Ok d) t told = record { values = d.left.values; row = d.left.row; marking = refl; stable = refl; rows = refl }
+complete_moved : (net : Net) (u : State) (burst j k : ℕ) (r : Result Done Trap) (t : Happening) → happening_by (law.complete net u burst j k r).0 ≡ Ok t → Moved net j u (law.complete net u burst j k r).1
+complete_moved net u burst j k (Err trap) t answered = absurd cc
+complete_moved net u burst j k (Ok d) t answered = record { values = d.left.values; row = d.left.row; marking = refl; stable = refl; rows = refl }
 
-unless_moved : (net : Net) (u : State) (burst j k : ℕ) (o : Option law.Ending) (r : Result Done Trap) (t : Told) → told_by (law.unless_over u o (law.complete net u burst j k r)).0 ≡ Ok t
+unless_moved : (net : Net) (u : State) (burst j k : ℕ) (o : Option law.Ending) (r : Result Done Trap) (t : Happening) → happening_by (law.unless_over u o (law.complete net u burst j k r)).0 ≡ Ok t
     → Moved net j u (law.unless_over u o (law.complete net u burst j k r)).1
-unless_moved net u burst j k (Some e) r t told = absurd cc
-unless_moved net u burst j k None r t told = complete_moved net u burst j k r t told
+unless_moved net u burst j k (Some e) r t answered = absurd cc
+unless_moved net u burst j k None r t answered = complete_moved net u burst j k r t answered
 
-pub fire_moved : (net : Net) (u : State) (j k : ℕ) (t : Told) → told_by (law.fire net u j k).0 ≡ Ok t → Moved net j u (law.fire net u j k).1
-fire_moved net u j k t told = unless_moved net u 0 j k (law.count_limit net u.count) (net.done j k (local_of net u j)) t told
+pub fire_moved : (net : Net) (u : State) (j k : ℕ) (t : Happening) → happening_by (law.fire net u j k).0 ≡ Ok t → Moved net j u (law.fire net u j k).1
+fire_moved net u j k t answered = unless_moved net u 0 j k (law.count_limit net u.count) (net.done j k (local_of net u j)) t answered
 
-pub instant_moved : (n : Network) (draw : ℕ → ℕ → ℕ) (bounds : Bounds) (u : State) (j k : ℕ) (t : Told) → told_by (instant_in n draw bounds u j k).0 ≡ Ok t → Moved (net_of n draw bounds) j u (instant_in n draw bounds u j k).1
-instant_moved n draw bounds u j k t told =
-    unless_moved (net_of n draw bounds) u (u.burst + 1) j k (law.limit_at (net_of n draw bounds) u.burst u.count) ((net_of n draw bounds).done j k (local_of (net_of n draw bounds) u j)) t told
+pub instant_moved : (n : Network) (draw : ℕ → ℕ → ℕ) (bounds : Bounds) (u : State) (j k : ℕ) (t : Happening) → happening_by (instant_in n draw bounds u j k).0 ≡ Ok t → Moved (net_of n draw bounds) j u (instant_in n draw bounds u j k).1
+instant_moved n draw bounds u j k t answered =
+    unless_moved (net_of n draw bounds) u (u.burst + 1) j k (law.limit_at (net_of n draw bounds) u.burst u.count) ((net_of n draw bounds).done j k (local_of (net_of n draw bounds) u j)) t answered
 
 -- whatever it comes to, the markings are as long as before
 complete_sized : (net : Net) (u : State) (burst j k m : ℕ) (r : Result Done Trap) → length u.marking ≡ m → length u.stable ≡ m → (length (law.complete net u burst j k r).1.marking ≡ m) × (length (law.complete net u burst j k r).1.stable ≡ m)
 complete_sized net u burst j k m (Err trap) a b = (a, b)
-complete_sized net u burst j k m (Ok d) a b = (scattered (slots_of net j) d.left.values u.marking ∙ a, b)
+complete_sized net u burst j k m (Ok d) a b = (scatter_length (slots_of net j) d.left.values u.marking ∙ a, b)
 
 unless_sized : (net : Net) (u : State) (burst j k m : ℕ) (o : Option law.Ending) (r : Result Done Trap) → length u.marking ≡ m → length u.stable ≡ m
     → (length (law.unless_over u o (law.complete net u burst j k r)).1.marking ≡ m) × (length (law.unless_over u o (law.complete net u burst j k r)).1.stable ≡ m)
@@ -246,10 +245,10 @@ places_within : (n : Network) (m : List ℕ) → length m ≡ length n.initial �
     → (i : ℕ) (p : Part) (k q : ℕ) → slice_get n.parts i ≡ Some p → slice_get (places_of p) k ≡ Some q → q < length m
 places_within n m sized lies i p k q is at = all_below_at (places_of p) (length m) k q (lies_over n i p is m sized lies).within at
 
--- what is told is what a step told
-pub if_told : (now : Result Event Ending) (n : Network) (x : law.Stepped) (P : Type 0) → now ≡ told_of n x → ((t : Told) → told_by x ≡ Ok t → P) → IfOk now (λ e. P)
-if_told (Ok e) n x P is h = let got = happened n x e (sym is) in h got.0 got.1
-if_told (Err e) n x P is h = tt
+-- what is answered is what a step answered
+pub if_answered : (now : Result Event Ending) (n : Network) (x : law.Stepped) (P : Type 0) → now ≡ event_or_ending n x → ((t : Happening) → happening_by x ≡ Ok t → P) → IfOk now (λ e. P)
+if_answered (Ok e) n x P is h = let got = happened n x e (sym is) in h got.0 got.1
+if_answered (Err e) n x P is h = tt
 
 -- flags over markings that are these
 touched_over : (n : Network) (places stable m a b : List ℕ) (old new : List Bool) → a ≡ stable → b ≡ m → TouchedAll n places a b old new → TouchedAll n places stable m old new
@@ -259,12 +258,12 @@ touched_over n places stable m a b old new e f so =
 module _ (n : Network) (draw : ℕ → ℕ → ℕ) (bounds : Bounds) (lies : (d : ℕ → ℕ → ℕ) (b : Bounds) → IsLaid (net_of n d b) (length n.initial)) (j k : ℕ) (h : j < length n.parts) (v : State) (a b : List ℕ) (old new : List Bool)
     (at_a : a ≡ v.stable) (at_b : b ≡ v.marking) (long : length old ≡ length n.parts) (own : slice_get new j ≡ Some true)
     (touched : (p : Part) → slice_get n.parts j ≡ Some p → TouchedAll n (places_of p) a b old new) where
-  pub timed_known : (s : State) (d : Due) (u : State) (t : Told) → d.leaf ≡ j → length s.marking ≡ length n.initial → u ≡ law.fired (net_of n draw bounds) s s.rows d → AreQuiet draw n.parts s.marking s.rows
-      → v ≡ (law.fire (net_of n draw bounds) u j k).1 → told_by (law.fire (net_of n draw bounds) u j k).0 ≡ Ok t → AreIdle n draw new v
-  timed_known s d u t leaf sized is quiet left told =
+  pub timed_known : (s : State) (d : Due) (u : State) (t : Happening) → d.leaf ≡ j → length s.marking ≡ length n.initial → u ≡ law.fired (net_of n draw bounds) s s.rows d → AreQuiet draw n.parts s.marking s.rows
+      → v ≡ (law.fire (net_of n draw bounds) u j k).1 → happening_by (law.fire (net_of n draw bounds) u j k).0 ≡ Ok t → AreIdle n draw new v
+  timed_known s d u t leaf sized is quiet left answered =
       let net = net_of n draw bounds in
       let part = cut n.parts j h in
-      let moved_u : Moved net j u v = subst (Moved net j u) (sym left) (fire_moved net u j k t told) in
+      let moved_u : Moved net j u v = subst (Moved net j u) (sym left) (fire_moved net u j k t answered) in
       let moved : Moved net j (law.fired net s s.rows d) v = subst (λ (x : State). Moved net j x v) is moved_u in
       idle_after n draw bounds j part.0 (law.fired net s s.rows d) v old new part.1 (places_within n s.marking sized lies) moved
       (touched_over n (places_of part.0) v.stable v.marking a b old new at_a at_b (touched part.0 part.1)) own long
@@ -273,12 +272,12 @@ module _ (n : Network) (draw : ℕ → ℕ → ℕ) (bounds : Bounds) (lies : (d
       let row : row_at (slice_set s.rows d.leaf (without_timer (row_at s.rows d.leaf) d.act)) i ≡ row_at s.rows i = get_or-set_other s.rows d.leaf i (without_timer (row_at s.rows d.leaf) d.act) no_row (λ e. other (e ∙ leaf)) in
       subst (IsIdle draw p s.marking s.marking) (sym row) (record { same = refl; nothing = q.0; quiet = q.1 }))
 
-  pub instant_known : (s u : State) (t : Told) → length s.marking ≡ length n.initial → u ≡ s → AreIdle n draw old s
-      → v ≡ (instant_in n draw bounds u j k).1 → told_by (instant_in n draw bounds u j k).0 ≡ Ok t → AreIdle n draw new v
-  instant_known s u t sized is known left told =
+  pub instant_known : (s u : State) (t : Happening) → length s.marking ≡ length n.initial → u ≡ s → AreIdle n draw old s
+      → v ≡ (instant_in n draw bounds u j k).1 → happening_by (instant_in n draw bounds u j k).0 ≡ Ok t → AreIdle n draw new v
+  instant_known s u t sized is known left answered =
       let net = net_of n draw bounds in
       let part = cut n.parts j h in
-      let moved_u : Moved net j u v = subst (Moved net j u) (sym left) (instant_moved n draw bounds u j k t told) in
+      let moved_u : Moved net j u v = subst (Moved net j u) (sym left) (instant_moved n draw bounds u j k t answered) in
       let moved : Moved net j s v = subst (λ (x : State). Moved net j x v) is moved_u in
       let over = touched_over n (places_of part.0) v.stable v.marking a b old new at_a at_b (touched part.0 part.1) in
       idle_after n draw bounds j part.0 s v old new part.1 (places_within n s.marking sized lies) moved over own long

@@ -16,7 +16,7 @@ use Rattle.san_net.specs.Laid.{places_of}
 use Rattle.san_net.specs.Leaf.{activities_from, activity_in, completed_in}
 use Rattle.san_net.specs.declared.atomic.ImpulseTerm.{ImpulseTerm}
 use Rattle.san_net.specs.declared.part.Part.{Part}
-use Rattle.san_seq.specs.inner.Completions.{completed_by, leaf_told, left_by, part_told, told_of}
+use Rattle.san_seq.specs.inner.Completions.{completed_by, leaf_left, left_by, part_left, done_left}
 
 some_is : {A : Type 0} (x y : A) → (let o : Option A = Some x in o) ≡ Some y → x ≡ y
 some_is x y e = cc
@@ -29,20 +29,20 @@ act_is terms j (b ∷ acts) (suc k) a is = let next : suc j + k ≡ j + suc k = 
 
 -- the completion's case and marking
 module _ (places m : List ℕ) (row : Row) (k : ℕ) (act : Activity) where
-  by_result : (r : Result Effected Trap) → completed_by (left_by places m r).0 (left_by places m r).1 (with_case row k) ≡ told_of places m (done_by row k act r)
+  by_result : (r : Result Effected Trap) → completed_by (left_by places m r).0 (left_by places m r).1 (with_case row k) ≡ done_left places m (done_by row k act r)
   by_result (Ok e) = refl
   by_result (Err trap) = refl
 
 pub done_is : (p : Part) (draw : ℕ → ℕ → ℕ) (k u : ℕ) (m after : List ℕ) (row : Row) (a : Named) (case : Result ℕ Trap) → slice_get p.atomic.acts k ≡ Some a
     → u ≡ draw (2 * (p.first.0 + k) + 1) (slice_index row.cases k)
     → (case, after) ≡ left_by (places_of p) m (completed_in a.1 u (gather (places_of p) m))
-    → completed_by case after (with_case row k) ≡ part_told draw p k m row
+    → completed_by case after (with_case row k) ≡ part_left draw p k m row
 done_is p draw k u m after row a case is drawn did =
     let act : Activity = activity_in p.atomic.impulses (0 + k) a.1 in
     ap (λ (x : Result ℕ Trap × List ℕ). completed_by x.0 x.1 (with_case row k)) did
     ∙ ap (λ (n : ℕ). completed_by (left_by (places_of p) m (completed_in a.1 n (gather (places_of p) m))).0 (left_by (places_of p) m (completed_in a.1 n (gather (places_of p) m))).1 (with_case row k)) drawn
     ∙ by_result (places_of p) m row k act (completed_in a.1 (draw (2 * (p.first.0 + k) + 1) (slice_index row.cases k)) (gather (places_of p) m))
-    ∙ ap (λ (x : Activity). told_of (places_of p) m (done_by row k x (x.complete (draw (2 * (p.first.0 + k) + 1) (slice_index row.cases k)) (gather (places_of p) m)))) (sym (act_is p.atomic.impulses 0 p.atomic.acts k a is))
+    ∙ ap (λ (x : Activity). done_left (places_of p) m (done_by row k x (x.complete (draw (2 * (p.first.0 + k) + 1) (slice_index row.cases k)) (gather (places_of p) m)))) (sym (act_is p.atomic.impulses 0 p.atomic.acts k a is))
 
 -- a trap takes no draw
 pub counted_same : (case : Result ℕ Trap) (m : List ℕ) (row : Row) (k : ℕ) → completed_by case m (counted_by case row k) ≡ completed_by case m (with_case row k)
@@ -62,8 +62,8 @@ sized_is places m after case (Ok e) is = ap (λ x. length x.1) is ∙ scatter_le
 sized_is places m after case (Err trap) is = ap (λ x. length x.1) is
 
 -- a part's completion is its leaf's in the network
-pub told_there : (n : Network) (draw : ℕ → ℕ → ℕ) (limits : law.Limits) (j k : ℕ) (p : Part) (m : List ℕ) (row : Row) → slice_get n.parts j ≡ Some p
-    → part_told draw p k m row ≡ leaf_told n draw limits j k m row
-told_there n draw limits j k p m row is =
-    ap (λ (q : leaf.Part). told_of (places_of p) m (completed draw q k (record { values = gather (places_of p) m; row = row }))) (sym (part_is n j p is))
-    ∙ ap (λ (ps : List ℕ). told_of ps m (completed draw (law.part_at (network_in n) j) k (record { values = gather ps m; row = row }))) (sym (places_are n j p is draw limits))
+pub done_there : (n : Network) (draw : ℕ → ℕ → ℕ) (limits : law.Limits) (j k : ℕ) (p : Part) (m : List ℕ) (row : Row) → slice_get n.parts j ≡ Some p
+    → part_left draw p k m row ≡ leaf_left n draw limits j k m row
+done_there n draw limits j k p m row is =
+    ap (λ (q : leaf.Part). done_left (places_of p) m (completed draw q k (record { values = gather (places_of p) m; row = row }))) (sym (part_is n j p is))
+    ∙ ap (λ (ps : List ℕ). done_left ps m (completed draw (law.part_at (network_in n) j) k (record { values = gather ps m; row = row }))) (sym (places_are n j p is draw limits))

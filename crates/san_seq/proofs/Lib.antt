@@ -1,3 +1,4 @@
+pub mod AnswerLemmas
 pub mod CompletionLemmas
 pub mod DueLemmas
 pub mod KnownLemmas
@@ -14,7 +15,7 @@ pub mod RunLemmas
 pub mod RunningLemmas
 pub mod StateLemmas
 pub mod SteppingLemmas
-pub mod ToldLemmas
+pub mod PublicAnswers
 pub mod TouchLemmas
 pub mod ViewLemmas
 pub mod WithinLemmas

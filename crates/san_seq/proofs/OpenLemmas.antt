@@ -97,7 +97,7 @@ state_runs n limits m stable rows a b c =
 
 -- a run with this seed at this state
 pub begun_is : (n : Network) (limits : Limits) (was seed : ℕ) (s : State) → was ≡ seed → s ≡ opening_state (net_of n (draw_of seed) (limits_in limits))
-    → (let r : Run = record { network = n; seed = was; limits = limits; going = On s } in r) ≡ opening n seed limits
+    → (let r : Run = record { network = n; seed = was; limits = limits; run_phase = On s } in r) ≡ opening n seed limits
 begun_is n limits was seed s a b =
-    ap (λ (x : ℕ). (let r : Run = record { network = n; seed = x; limits = limits; going = On s } in r)) a
-    ∙ ap (λ (x : State). (let r : Run = record { network = n; seed = seed; limits = limits; going = On x } in r)) b
+    ap (λ (x : ℕ). (let r : Run = record { network = n; seed = x; limits = limits; run_phase = On s } in r)) a
+    ∙ ap (λ (x : State). (let r : Run = record { network = n; seed = seed; limits = limits; run_phase = On x } in r)) b

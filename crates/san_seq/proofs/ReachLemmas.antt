@@ -6,7 +6,7 @@ use Rattle.san_base.specs.declared.ending.Event.{Event}
 use Rattle.san_base.specs.declared.ending.Ending.{Ending}
 use Rattle.san_base.specs.declared.ending.Trap.{Trap}
 use Rattle.san_law.proofs.Least.{before_late, least_is_before}
-use Rattle.san_law.proofs.Places.{gather_scatter}
+use Rattle.san_law.proofs.Places.{gather_scatter, scatter_length}
 use Rattle.san_law.proofs.Timers.{dropped_late, least_like}
 use Rattle.san_law.specs.Activity.{Effected, Part, activity_of, case_stream, completed, done_by}
 use Rattle.san_law.specs.inner.Least.{Before}
@@ -21,26 +21,25 @@ use Rattle.san_law.specs.Step.{End, Event as LawEvent, Happened, Over, Stepped, 
 use Rattle.san_law.specs.Trajectory.{Runs}
 use Rattle.san_net.specs.Network.{Network, net_of, network_in}
 use Rattle.san_net.proofs.LaidLemmas.{laid, lawful}
-use Rattle.san_seq.specs.FlatRun.{Going, On, Run, left_by, net_in, stepped}
+use Rattle.san_seq.specs.FlatRun.{RunPhase, On, Run, left_by, net_in, stepped}
 use Rattle.san_seq.specs.Reaching.{EventsAreInTime, EventsAreTheLaws, IsInTime, impulses_at}
 use Rattle.san_seq.specs.inner.Rows.{row_at}
-use Rattle.san_seq.specs.Telling.{event_in, told_of}
-use Rattle.san_seq.proofs.RunningLemmas.{scattered}
+use Rattle.san_seq.specs.Outcomes.{event_in, event_or_ending}
 
 -- a step's event is the law's
-laws_by : (n : Network) (net : Net) (s : State) (e : Event) (x : Stepped) → (step net s).0 ≡ x → told_of n x ≡ Ok e
+laws_by : (n : Network) (net : Net) (s : State) (e : Event) (x : Stepped) → (step net s).0 ≡ x → event_or_ending n x ≡ Ok e
     → (ev : LawEvent) × ((step net s).0 ≡ Happened ev) × (event_in n ev ≡ e) × (left_by n (step net s) ≡ On (step net s).1)
-laws_by n net s e (Over time ending) is told = absurd cc
-laws_by n net s e (Happened ev) is told = (ev, is, same (event_in n ev) e told, ap (λ (x : Stepped). left_by n (x, (step net s).1)) is)
+laws_by n net s e (Over time ending) is answered = absurd cc
+laws_by n net s e (Happened ev) is answered = (ev, is, same (event_in n ev) e answered, ap (λ (x : Stepped). left_by n (x, (step net s).1)) is)
   where
     same : (a b : Event) → (let r : Result Event Ending = Ok a in r) ≡ Ok b → a ≡ b
     same a b q = cc
 
 pub events_are_laws : (r : Run) → EventsAreTheLaws r
-events_are_laws r s e on told =
-    let told_on : (stepped r.network (net_in r) (On s)).0 ≡ Ok e = sym (ap (λ (g : Going). (stepped r.network (net_in r) g).0) on) ∙ told in
-    let got = laws_by r.network (net_in r) s e (step (net_in r) s).0 refl told_on in
-    record { event = got.0; happens = got.1; told = got.2; left = ap (λ (g : Going). (stepped r.network (net_in r) g).1) on ∙ got.3 }
+events_are_laws r s e on answered =
+    let answered_on : (stepped r.network (net_in r) (On s)).0 ≡ Ok e = sym (ap (λ (g : RunPhase). (stepped r.network (net_in r) g).0) on) ∙ answered in
+    let got = laws_by r.network (net_in r) s e (step (net_in r) s).0 refl answered_on in
+    record { event = got.0; happens = got.1; answered = got.2; left = ap (λ (g : RunPhase). (stepped r.network (net_in r) g).1) on ∙ got.3 }
 
 -- one row anew
 any_row : (P : Row → Type 0) (rows : List Row) (j : ℕ) (new : Row) → ((i : ℕ) → P (row_at rows i)) → P new → (i : ℕ) → P (row_at (slice_set rows j new) i)
@@ -131,7 +130,7 @@ module _ (n : Network) (draw : ℕ → ℕ → ℕ) (limits : Limits) (ok : IsLa
         kept = record {
           late = any_row (IsLate s.time) s.rows j d.left.row is.late (λ x e. is.late j x (sym least ∙ e));
           time = is.time;
-          sized = scattered (slots_of net j) d.left.values s.marking ∙ is.sized;
+          sized = scatter_length (slots_of net j) d.left.values s.marking ∙ is.sized;
         };
       }
 
@@ -140,13 +139,13 @@ module _ (n : Network) (draw : ℕ → ℕ → ℕ) (limits : Limits) (ok : IsLa
 
   complete_goes : (s : State) (burst j k : ℕ) (r : Result Done Trap) (t : ℕ) (e : LawEvent) → t ≤ s.time → Kept net (length n.initial) s → net.done j k (local_of net s j) ≡ r
       → (complete net s burst j k r).0 ≡ Happened e → Went t (complete net s burst j k r) e
-  complete_goes s burst j k (Err trap) t e h is done told = absurd cc
-  complete_goes s burst j k (Ok d) t e h is done told =
-      subst (Went t (complete net s burst j k (Ok d))) (same_event (event_of s.time j k d) e told) (done_goes s burst j k d t h is done)
+  complete_goes s burst j k (Err trap) t e h is done answered = absurd cc
+  complete_goes s burst j k (Ok d) t e h is done answered =
+      subst (Went t (complete net s burst j k (Ok d))) (same_event (event_of s.time j k d) e answered) (done_goes s burst j k d t h is done)
 
   unless_goes : (s : State) (o : Option law.Ending) (x : Stepped × State) (t : ℕ) (e : LawEvent) → (x.0 ≡ Happened e → Went t x e) → (unless_over s o x).0 ≡ Happened e → Went t (unless_over s o x) e
-  unless_goes s (Some o) x t e go told = absurd cc
-  unless_goes s None x t e go told = go told
+  unless_goes s (Some o) x t e go answered = absurd cc
+  unless_goes s None x t e go answered = go answered
 
   -- the rows after the first timer's firing
   fired_late : (rows : List Row) (d : Due) → least_from 0 (map least_timer rows) ≡ Some d → AreLate d.time (slice_set rows d.leaf (without_timer (row_at rows d.leaf) d.act))
@@ -163,33 +162,33 @@ module _ (n : Network) (draw : ℕ → ℕ → ℕ) (limits : Limits) (ok : IsLa
 
   due_goes : (s : State) (rows : List Row) (o : Option Due) (e : LawEvent) → Kept net (length n.initial) s → AreLate s.time rows → least_from 0 (map least_timer rows) ≡ o
       → (at_due net s rows o).0 ≡ Happened e → Went s.time (at_due net s rows o) e
-  due_goes s rows None e is late least told = absurd cc
-  due_goes s rows (Some d) e is late least told = by_test (nat_le d.time net.horizon) refl told
+  due_goes s rows None e is late least answered = absurd cc
+  due_goes s rows (Some d) e is late least answered = by_test (nat_le d.time net.horizon) refl answered
     where
       by_test : (b : Bool) → nat_le d.time net.horizon ≡ b → (cond b (fire net (fired net s rows d) d.leaf d.act) (Over net.horizon End, s)).0 ≡ Happened e → Went s.time (cond b (fire net (fired net s rows d) d.leaf d.act) (Over net.horizon End, s)) e
-      by_test false q told_off = absurd cc
-      by_test true q told_on =
+      by_test false q answered_off = absurd cc
+      by_test true q answered_on =
           let u = fired net s rows d in
           let after : Kept net (length n.initial) u = record { late = fired_late rows d least; time = leb-true d.time net.horizon q; sized = is.sized } in
           unless_goes u (count_limit net u.count) (complete net u 0 d.leaf d.act (net.done d.leaf d.act (local_of net u d.leaf))) s.time e
           (complete_goes u 0 d.leaf d.act (net.done d.leaf d.act (local_of net u d.leaf)) s.time e (first_late s.time rows d late least) after refl)
-          told_on
+          answered_on
 
   rest_goes : (s : State) (x : Renewal) (e : LawEvent) → Kept net (length n.initial) s → Renewed s.time x → (at_rest net s x).0 ≡ Happened e → Went s.time (at_rest net s x) e
-  rest_goes s (FaultAt j k trap) e is all told = absurd cc
-  rest_goes s (AllFresh rows) e is all told = due_goes s rows (least_from 0 (map least_timer rows)) e is all refl told
+  rest_goes s (FaultAt j k trap) e is all answered = absurd cc
+  rest_goes s (AllFresh rows) e is all answered = due_goes s rows (least_from 0 (map least_timer rows)) e is all refl answered
 
   next_goes : (s : State) (x : Next) (e : LawEvent) → Kept net (length n.initial) s → (at_next net s x).0 ≡ Happened e → Went s.time (at_next net s x) e
-  next_goes s Stable e is told = rest_goes s (renewed_from net s 0 s.rows) e is (renewed_late net ok s 0 s.rows is.late) told
-  next_goes s (TrapsAt j k trap) e is told = absurd cc
-  next_goes s (Completes j k) e is told =
+  next_goes s Stable e is answered = rest_goes s (renewed_from net s 0 s.rows) e is (renewed_late net ok s 0 s.rows is.late) answered
+  next_goes s (TrapsAt j k trap) e is answered = absurd cc
+  next_goes s (Completes j k) e is answered =
       unless_goes s (limit_at net s.burst s.count) (complete net s (s.burst + 1) j k (net.done j k (local_of net s j))) s.time e
       (complete_goes s (s.burst + 1) j k (net.done j k (local_of net s j)) s.time e (omega arith) is refl)
-      told
+      answered
 
   step_goes : (s : State) (e : LawEvent) → Kept net (length n.initial) s → (step net s).0 ≡ Happened e → Went s.time (step net s) e
   unfolding step
-  step_goes s e is told = next_goes s (next_instant net s) e is told
+  step_goes s e is answered = next_goes s (next_instant net s) e is answered
 
   kept_on : (es : List LawEvent) (s t : State) → Kept net (length n.initial) s → Runs net s es t → Kept net (length n.initial) t
   kept_on [] s t is runs = subst (Kept net (length n.initial)) runs is
@@ -199,9 +198,9 @@ module _ (n : Network) (draw : ℕ → ℕ → ℕ) (limits : Limits) (ok : IsLa
   opening_kept = record { late = λ i x e. omega arith; time = omega arith; sized = refl }
 
   reached : (es : List LawEvent) (s : State) (e : LawEvent) → Runs net (opening_state net) es s → (step net s).0 ≡ Happened e → IsInTime n net s e
-  reached es s e runs told =
-      let went = step_goes s e (kept_on es (opening_state net) s opening_kept runs) told in
+  reached es s e runs answered =
+      let went = step_goes s e (kept_on es (opening_state net) s opening_kept runs) answered in
       record { later = went.later; within = went.within; present = went.present; impulses = went.impulses }
 
 pub events_in_time : (n : Network) → EventsAreInTime n
-events_in_time n is draw limits es s e runs told = reached n draw limits (lawful n is draw limits) (laid n is draw limits) es s e runs told
+events_in_time n is draw limits es s e runs answered = reached n draw limits (lawful n is draw limits) (laid n is draw limits) es s e runs answered

@@ -5,6 +5,7 @@ use Rattle.std.proofs.lemmas.Bool.{cases_eq}
 use Rattle.std.proofs.lemmas.List.{get_or-set_same, get_or-set_other, length-set}
 use Rattle.san_base.specs.declared.ending.Trap.{Trap}
 use Rattle.san_base.specs.declared.limits.Limits.{Limits}
+use Rattle.san_law.proofs.Places.{scatter_from_length, scatter_length}
 use Rattle.san_law.specs.Activity.{Effected, Part, activity_of, case_stream, completed, done_by, with_case}
 use Rattle.san_law.specs.Net.{Done, Local, Net, Row, no_row, without_timer}
 use Rattle.san_law.specs.Renewal.{Due}
@@ -16,7 +17,7 @@ use Rattle.san_net.specs.declared.part.Part as net
 use Rattle.san_seq.specs.Overs.{limits_in}
 use Rattle.san_seq.specs.inner.Rows.{AreDrawn, AreRows, IsLike, row_at}
 use Rattle.san_seq.specs.inner.Running.{AreCounted, IsDrawn, IsRunning, with_rows}
-use Rattle.san_seq.proofs.ToldLemmas.{Told, told_by}
+use Rattle.san_seq.proofs.AnswerLemmas.{Happening, happening_by}
 
 -- what holds of each row still does after one is set
 each_set : (P : ℕ → Row → Type 0) (rows : List Row) (j : ℕ) (new : Row) → j < length rows → ((i : ℕ) → P i (row_at rows i)) → P j new → (i : ℕ) → P i (row_at (slice_set rows j new) i)
@@ -105,14 +106,6 @@ more_drawn a b rows h all i k d in_it = omega (arith, h, all i k d in_it)
 more_counted : (a b : ℕ) (rows : List Row) → a ≤ b → AreCounted a rows → AreCounted b rows
 more_counted a b rows h all i k d in_it = omega (arith, h, all i k d in_it)
 
-length_scattered : (slots values : List ℕ) (q : ℕ) (m : List ℕ) → length (scatter_from slots values q m) ≡ length m
-length_scattered slots values q [] = refl
-length_scattered slots values q (v ∷ vs) = ap suc (length_scattered slots values (suc q) vs)
-
-pub scattered : (slots values m : List ℕ) → length (scatter slots values m) ≡ length m
-unfolding scatter
-scattered slots values m = length_scattered slots values 0 m
-
 module _ (n : Network) (draw : ℕ → ℕ → ℕ) (limits : Limits) (s : State) (burst j k : ℕ) (is : IsDrawn n limits (s.count + 1) s) (h : j < length s.rows) (most : burst ≤ limits.burst) (room : s.count < limits.events) where
   with_done : (d : Done) → (net_of n draw (limits_in limits)).done j k (local_of (net_of n draw (limits_in limits)) s j) ≡ Ok d
       → IsRunning n limits (law.with_local (net_of n draw (limits_in limits)) s burst j d.left)
@@ -124,7 +117,7 @@ module _ (n : Network) (draw : ℕ → ℕ → ℕ) (limits : Limits) (s : State
         rows = subst (AreRows n.parts) (sym set) (rows_set n.parts s.rows j new h is.rows refl refl (length-set (row_at s.rows j).cases k (slice_index (row_at s.rows j).cases k + 1)));
         delays = subst (AreDrawn (s.count + 1)) (sym set) (each_set (λ i (x : Row). All (λ m. m ≤ s.count + 1) x.delays) s.rows j new h is.delays (is.delays j));
         cases = subst (AreCounted (s.count + 1)) (sym set) (each_set (λ i (x : Row). All (λ m. m ≤ s.count + 1) x.cases) s.rows j new h (more_counted s.count (s.count + 1) s.rows (omega arith) is.cases) (all_counted s.count k (row_at s.rows j).cases (is.cases j)));
-        marking = scattered (slots_of (net_of n draw (limits_in limits)) j) d.left.values s.marking ∙ is.marking;
+        marking = scatter_length (slots_of (net_of n draw (limits_in limits)) j) d.left.values s.marking ∙ is.marking;
         stable = is.stable;
         time = is.time;
         burst = most;
@@ -136,7 +129,7 @@ module _ (n : Network) (draw : ℕ → ℕ → ℕ) (limits : Limits) (s : State
       same_leaf x y e = cc
 
   pub by_done : (r : Result Done Trap) → (net_of n draw (limits_in limits)).done j k (local_of (net_of n draw (limits_in limits)) s j) ≡ r
-      → (t : Told) → told_by (law.complete (net_of n draw (limits_in limits)) s burst j k r).0 ≡ Ok t
+      → (t : Happening) → happening_by (law.complete (net_of n draw (limits_in limits)) s burst j k r).0 ≡ Ok t
       → IsRunning n limits (law.complete (net_of n draw (limits_in limits)) s burst j k r).1
   by_done (Ok d) done t is = with_done d done
   by_done (Err trap) done t is = absurd cc

@@ -6,9 +6,9 @@ use Rattle.san_law.specs.State.{State, local_of, slots_of}
 use Rattle.san_law.specs.Step as law
 use Rattle.san_law.specs.Network.{Limits}
 use Rattle.san_net.specs.Network.{Network}
-use Rattle.san_seq.specs.inner.Completions.{completed_by, leaf_told, told_of}
+use Rattle.san_seq.specs.inner.Completions.{completed_by, leaf_left, done_left}
 use Rattle.san_seq.specs.inner.Rows.{row_at}
-use Rattle.san_seq.proofs.ToldLemmas.{Told, case_by, told_by}
+use Rattle.san_seq.proofs.AnswerLemmas.{Happening, case_by, happening_by}
 
 -- a state after a completion
 abbrev pub left_rows : State → ℕ → ℕ → List ℕ → List Row → State
@@ -19,11 +19,11 @@ left_with s burst j m row = left_rows s burst j m (slice_set s.rows j row)
 
 module _ (net : Net) (s : State) (burst j k : ℕ) where
   -- by what the law's completion leaves
-  by_done : (case : ℕ) (m : List ℕ) (row : Row) (r : Result Done Trap) → completed_by (Ok case) m row ≡ told_of (slots_of net j) s.marking r
-      → (case_by s.time j k (Ok case) ≡ told_by (law.complete net s burst j k r).0) × (left_with s burst j m row ≡ (law.complete net s burst j k r).1)
+  by_done : (case : ℕ) (m : List ℕ) (row : Row) (r : Result Done Trap) → completed_by (Ok case) m row ≡ done_left (slots_of net j) s.marking r
+      → (case_by s.time j k (Ok case) ≡ happening_by (law.complete net s burst j k r).0) × (left_with s burst j m row ≡ (law.complete net s burst j k r).1)
   by_done case m row (Ok d) is =
       let got = ok_is (case, m, row) _ is in (
-        ap (λ (x : ℕ × List ℕ × Row). (let told : Result Told (ℕ × law.Ending) = Ok (record { time = s.time; leaf = j; act = k; case = x.0 }) in told)) got,
+        ap (λ (x : ℕ × List ℕ × Row). (let answered : Result Happening (ℕ × law.Ending) = Ok (record { time = s.time; leaf = j; act = k; case = x.0 }) in answered)) got,
         ap (λ (x : ℕ × List ℕ × Row). left_with s burst j x.1 x.2) got,
       )
     where
@@ -31,21 +31,21 @@ module _ (net : Net) (s : State) (burst j k : ℕ) where
       ok_is x y e = cc
   by_done case m row (Err trap) is = absurd cc
 
-  by_trap : (trap : Trap) (m : List ℕ) (row : Row) (r : Result Done Trap) → completed_by (Err trap) m row ≡ told_of (slots_of net j) s.marking r
-      → (case_by s.time j k (Err trap) ≡ told_by (law.complete net s burst j k r).0) × (s ≡ (law.complete net s burst j k r).1)
+  by_trap : (trap : Trap) (m : List ℕ) (row : Row) (r : Result Done Trap) → completed_by (Err trap) m row ≡ done_left (slots_of net j) s.marking r
+      → (case_by s.time j k (Err trap) ≡ happening_by (law.complete net s burst j k r).0) × (s ≡ (law.complete net s burst j k r).1)
   by_trap trap m row (Ok d) is = absurd cc
   by_trap trap m row (Err other) is = (ap (λ (x : Trap). case_by s.time j k (Err x)) (err_is trap other is), refl)
     where
       err_is : (x y : Trap) → (let r : Result (ℕ × List ℕ × Row) Trap = Err x in r) ≡ Err y → x ≡ y
       err_is x y e = cc
 
-  pub completes : (case : ℕ) (m : List ℕ) (row : Row) → completed_by (Ok case) m row ≡ told_of (slots_of net j) s.marking (net.done j k (local_of net s j))
-      → (case_by s.time j k (Ok case) ≡ told_by (law.complete net s burst j k (net.done j k (local_of net s j))).0)
+  pub completes : (case : ℕ) (m : List ℕ) (row : Row) → completed_by (Ok case) m row ≡ done_left (slots_of net j) s.marking (net.done j k (local_of net s j))
+      → (case_by s.time j k (Ok case) ≡ happening_by (law.complete net s burst j k (net.done j k (local_of net s j))).0)
       × (left_with s burst j m row ≡ (law.complete net s burst j k (net.done j k (local_of net s j))).1)
   completes case m row is = by_done case m row (net.done j k (local_of net s j)) is
 
-  pub traps : (trap : Trap) (m : List ℕ) (row : Row) → completed_by (Err trap) m row ≡ told_of (slots_of net j) s.marking (net.done j k (local_of net s j))
-      → (case_by s.time j k (Err trap) ≡ told_by (law.complete net s burst j k (net.done j k (local_of net s j))).0)
+  pub traps : (trap : Trap) (m : List ℕ) (row : Row) → completed_by (Err trap) m row ≡ done_left (slots_of net j) s.marking (net.done j k (local_of net s j))
+      → (case_by s.time j k (Err trap) ≡ happening_by (law.complete net s burst j k (net.done j k (local_of net s j))).0)
       × (s ≡ (law.complete net s burst j k (net.done j k (local_of net s j))).1)
   traps trap m row is = by_trap trap m row (net.done j k (local_of net s j)) is
 
@@ -67,9 +67,9 @@ pub if_err : (r : Result ℕ Trap) (trap : Trap) (P : Trap → Type 0) → r ≡
 if_err r trap P is holds = subst (λ (x : Result ℕ Trap). IfErr x P) is holds
 
 -- what the completion left, in the state's own words
-pub told_in : (n : Network) (draw : ℕ → ℕ → ℕ) (limits : Limits) (v s : State) (j k : ℕ) → v ≡ s
-    → leaf_told n draw limits j k v.marking (row_at v.rows j) ≡ leaf_told n draw limits j k s.marking (row_at s.rows j)
-told_in n draw limits v s j k e = ap (λ (x : State). leaf_told n draw limits j k x.marking (row_at x.rows j)) e
+pub done_in : (n : Network) (draw : ℕ → ℕ → ℕ) (limits : Limits) (v s : State) (j k : ℕ) → v ≡ s
+    → leaf_left n draw limits j k v.marking (row_at v.rows j) ≡ leaf_left n draw limits j k s.marking (row_at s.rows j)
+done_in n draw limits v s j k e = ap (λ (x : State). leaf_left n draw limits j k x.marking (row_at x.rows j)) e
 
 pub left_is : (v s : State) (burst j : ℕ) (m : List ℕ) (rows : List Row) (row : Row) → rows ≡ slice_set v.rows j row → v ≡ s → left_rows v burst j m rows ≡ left_with s burst j m row
 left_is v s burst j m rows row set e = ap (left_rows v burst j m) set ∙ ap (λ (x : State). left_with x burst j m row) e

@@ -9,14 +9,15 @@ use Rattle.san_expr.specs.Meaning.{Meaning}
 use Rattle.san_expr.specs.Meets.{Meets}
 use Rattle.san_expr.specs.View.{Agrees, Known, Reads, Answers, assigned, with}
 use Rattle.san_expr.proofs.WholeLemmas.{plain_is}
+use Rattle.san_law.proofs.Places.{below_at}
 use Rattle.san_law.specs.Lawful.{AllBelow, AreDistinct}
 use Rattle.san_law.specs.State.{gather, index_of, or_next, scatter}
 use Rattle.san_net.specs.Cells.{IsOver}
 use Rattle.san_net.specs.Laid.{place_of}
-use Rattle.san_net.proofs.CellLemmas.{below_at, cells_are, gathered, not_there, outside_set, put_together}
+use Rattle.san_net.proofs.CellLemmas.{cells_are, gathered, not_there, outside_set, put_together}
 use Rattle.san_net.specs.declared.part.Slot.{Slot}
 use Rattle.san_net.specs.declared.part.Slot.TheVariants.{Private}
-use Rattle.san_seq.specs.inner.Views.{Seen, outside, shown, sight_of}
+use Rattle.san_seq.specs.inner.Views.{Seen, outside, shown, view_state_of}
 
 rest_of : (p s : ℕ) (ss : List ℕ) → index_of p (s ∷ ss) ≡ None → index_of p ss ≡ None
 rest_of p s ss none = by_test (nat_eq p s) (index_of p ss) none
@@ -70,12 +71,12 @@ shown_set values kept k v h =
     ∙ ap (λ (own : Known). record { places = length values; first = λ p. None; own = own; behind = []; kept = kept }) (own_is values k v h)
 
 -- what a read gives
-pub read_is : (s : Seen) (k v : ℕ) → k < length s.places → v ≡ slice_index s.marking (slice_index s.places k) → Reads (sight_of s) (sight_of s) k v
-read_is s k v h is = subst (λ (o : Option ℕ). Answers o None (sight_of s) (sight_of s) k v) (sym (gathered s.places s.marking k h)) (is, refl)
+pub read_is : (s : Seen) (k v : ℕ) → k < length s.places → v ≡ slice_index s.marking (slice_index s.places k) → Reads (view_state_of s) (view_state_of s) k v
+read_is s k v h is = subst (λ (o : Option ℕ). Answers o None (view_state_of s) (view_state_of s) k v) (sym (gathered s.places s.marking k h)) (is, refl)
 
 -- what an assignment leaves
 pub set_is : (s t : Seen) (k v : ℕ) → IsOver s.places s.marking → k < length s.places → t.places ≡ s.places → t.marking ≡ slice_set s.marking (slice_index s.places k) v
-    → sight_of t ≡ assigned (sight_of s) k v
+    → view_state_of t ≡ assigned (view_state_of s) k v
 set_is s t k v over h same left =
     ap (λ (ps : List ℕ). shown (gather ps t.marking) (ps ++ outside ps t.marking)) same ∙ ap (λ (m : List ℕ). shown (gather s.places m) (s.places ++ outside s.places m)) left
     ∙ ap (λ (rest : List ℕ). shown (gather s.places (slice_set s.marking (slice_index s.places k) v)) (s.places ++ rest)) (outside_set s.places s.marking k v over.apart h)
@@ -97,11 +98,11 @@ module _ (slots : List Slot) (m : List ℕ) (s : Seen) (is : (let seen : Seen = 
   pub within : at < length m
   within = subst (λ (n : ℕ). n < length m) (sym at_is) (below_at (map place_of slots) (length m) k over.within inside)
 
-  pub reads_there : (v : ℕ) → v ≡ slice_index m at → Reads (sight_of s) (sight_of s) k v
-  reads_there v e = subst (λ (x : Seen). Reads (sight_of x) (sight_of x) k v) is (read_is seen k v inside (e ∙ ap (slice_index m) at_is))
+  pub reads_there : (v : ℕ) → v ≡ slice_index m at → Reads (view_state_of s) (view_state_of s) k v
+  reads_there v e = subst (λ (x : Seen). Reads (view_state_of x) (view_state_of x) k v) is (read_is seen k v inside (e ∙ ap (slice_index m) at_is))
 
-  pub sets_there : (v : ℕ) (t : Seen) → t.places ≡ map place_of slots → t.marking ≡ slice_set m at v → sight_of t ≡ assigned (sight_of s) k v
-  sets_there v t same left = set_is seen t k v over inside same (left ∙ ap (λ (n : ℕ). slice_set m n v) at_is) ∙ ap (λ (x : Seen). assigned (sight_of x) k v) is
+  pub sets_there : (v : ℕ) (t : Seen) → t.places ≡ map place_of slots → t.marking ≡ slice_set m at v → view_state_of t ≡ assigned (view_state_of s) k v
+  sets_there v t same left = set_is seen t k v over inside same (left ∙ ap (λ (n : ℕ). slice_set m n v) at_is) ∙ ap (λ (x : Seen). assigned (view_state_of x) k v) is
 
 -- a call over a view is its meaning in the leaf's values, and keeps the rest
 shown_meets : {T : Type 0} (values left kept after : List ℕ) (a : Meaning T) (r : Result T Trap) → Meets (shown values kept) (shown left after) a r
@@ -129,15 +130,15 @@ pub record Called {T : Type 0} (s t : Seen) (a : Meaning T) (r : Result T Trap) 
   pub answer : (a (gather s.places s.marking)).answer ≡ r
   pub marking : t.marking ≡ scatter s.places (a (gather s.places s.marking)).left s.marking
 
-pub called : {T : Type 0} (s t : Seen) (a : Meaning T) (r : Result T Trap) → Meets (sight_of s) (sight_of t) a r → Called s t a r
+pub called : {T : Type 0} (s t : Seen) (a : Meaning T) (r : Result T Trap) → Meets (view_state_of s) (view_state_of t) a r → Called s t a r
 called s t a r p =
     let met = shown_meets (gather s.places s.marking) (gather t.places t.marking) (s.places ++ outside s.places s.marking) (t.places ++ outside t.places t.marking) a r p in
     let sized : length t.places ≡ length s.places = sym (cells_are t.places t.marking) ∙ p.places ∙ cells_are s.places s.marking in
-    let told = kept_tells t.places s.places (outside t.places t.marking) (outside s.places s.marking) sized met.2 in
+    let answered = kept_tells t.places s.places (outside t.places t.marking) (outside s.places s.marking) sized met.2 in
     record {
-      places = told.0;
+      places = answered.0;
       answer = met.0;
       marking = put_together s.places (a (gather s.places s.marking)).left s.marking t.marking
-          (ap (λ (ps : List ℕ). gather ps t.marking) (sym told.0) ∙ met.1)
-          (ap (λ (ps : List ℕ). outside ps t.marking) (sym told.0) ∙ told.1);
+          (ap (λ (ps : List ℕ). gather ps t.marking) (sym answered.0) ∙ met.1)
+          (ap (λ (ps : List ℕ). outside ps t.marking) (sym answered.0) ∙ answered.1);
     }

@@ -10,17 +10,17 @@ use Rattle.san_law.specs.Trajectory.{Runs}
 use Rattle.san_net.specs.Laid.{IsNetwork}
 use Rattle.san_net.specs.Network.{Network, net_of, network_in}
 use Rattle.san_seq.specs.FlatRun.{On, Run, after_step, net_in, step_of}
-use Rattle.san_seq.specs.Telling.{event_in}
+use Rattle.san_seq.specs.Outcomes.{event_in}
 
 -- an event that a step tells is the law's, and leaves the law's state
 pub record IsTheLaws (r : Run) (s : State) (e : Event) : Type 0 where
   pub event : law.Event
   pub happens : (law.step (net_in r) s).0 ≡ law.Happened event
-  pub told : event_in r.network event ≡ e
-  pub left : (after_step r).going ≡ On (law.step (net_in r) s).1
+  pub answered : event_in r.network event ≡ e
+  pub left : (after_step r).run_phase ≡ On (law.step (net_in r) s).1
 
 abbrev pub EventsAreTheLaws : Run → Type 0
-EventsAreTheLaws r = (s : State) (e : Event) → r.going ≡ On s → (step_of r).0 ≡ Ok e → IsTheLaws r s e
+EventsAreTheLaws r = (s : State) (e : Event) → r.run_phase ≡ On s → (step_of r).0 ≡ Ok e → IsTheLaws r s e
 
 -- the impulses of a leaf's activity in a marking
 abbrev pub impulses_at : Network → ℕ → ℕ → List ℕ → List Impulse

@@ -1,16 +1,17 @@
 //! The completion of a leaf's activity over the marking.
 
-ghost use Rattle.std.specs.Prelude.{IfErr, Some, length, map, slice_get, slice_index, ℕ, ◌*◌, ◌+◌, ◌<◌, ◌^◌, ◌≡◌, ◌≤◌};
+ghost use Rattle.std.specs.Prelude.{IfErr, Some, length, map, slice_get, slice_index, ℕ, ◌*◌, ◌+◌, ◌<◌, ◌≡◌, ◌≤◌};
+ghost use Rattle.san_base.specs.declared.limits.TheConstants.{MAX_DRAWS};
 ghost use Rattle.san_draw.specs.Key.{draw_of};
-ghost use Rattle.san_expr.specs.View.{Reads, Sight, assigned};
+ghost use Rattle.san_expr.specs.View.{Reads, ViewState, assigned};
 ghost use Rattle.san_law.specs.Network.{Limits};
 ghost use Rattle.san_net.specs.Accepted.{IsAccepted};
 ghost use Rattle.san_net.specs.Cells.{IsOver};
 ghost use Rattle.san_net.specs.Laid.{acts_of, place_of, places_of};
 ghost use Rattle.san_net.specs.declared.part.Part.{Part};
-ghost use Rattle.san_seq.specs.inner.Completions.{completed_by, leaf_told, part_told};
+ghost use Rattle.san_seq.specs.inner.Completions.{completed_by, leaf_left, part_left};
 ghost use Rattle.san_seq.specs.inner.Rows.{IsRowOf};
-ghost use Rattle.san_seq.specs.inner.Views.{sight_of};
+ghost use Rattle.san_seq.specs.inner.Views.{view_state_of};
 
 use san_base::{LeafId, MAX_ACTS, MAX_CELLS, Trap};
 use san_clock::{Row, complete_act};
@@ -58,7 +59,7 @@ impl<'a> LeafView<'a> {
 }
 
 impl<'a> Marked for LeafView<'a> {
-    ghost sight = { sight_of };
+    ghost view_state = { view_state_of };
 
     fn read(&mut self, place: u32) -> u32 {
         let slots = self.slots;
@@ -91,9 +92,9 @@ fn complete_leaf(
     requires cases { length row.old.cases ≡ length part.now.atomic.acts }
     requires streams { 2 * (part.now.first.0 + length part.now.atomic.acts) ≤ streams.old.streams }
     requires small { part.now.first.0 + length part.now.atomic.acts ≤ MAX_ACTS }
-    requires number { slice_index row.old.cases act + 1 < 2 ^ 40 }
+    requires number { slice_index row.old.cases act + 1 < MAX_DRAWS }
     ensures done { completed_by result.0 result.1.items row.new
-        ≡ part_told (draw_of streams.old.seed) part.now act marking.items row.old }
+        ≡ part_left (draw_of streams.old.seed) part.now act marking.items row.old }
     ensures trap { IfErr result.0 (λ trap. (result.1.items ≡ marking.items) × (row.new ≡ row.old)) }
     ensures timers { row.new.timers ≡ row.old.timers }
     ensures sized { length result.1.items ≡ length marking.items }
@@ -130,9 +131,9 @@ pub(crate) fn complete_at(
     requires sized { length marking.items ≡ length flat.now.initial }
     requires row { (p : Part) → slice_get flat.now.parts leaf.0 ≡ Some p → IsRowOf p row.old }
     requires streams { 2 * acts_of flat.now.parts ≤ streams.old.streams }
-    requires number { slice_index row.old.cases act + 1 < 2 ^ 40 }
+    requires number { slice_index row.old.cases act + 1 < MAX_DRAWS }
     ensures done { (limits : Limits) → completed_by result.0 result.1.items row.new
-        ≡ leaf_told flat.now (draw_of streams.old.seed) limits leaf.0 act marking.items row.old }
+        ≡ leaf_left flat.now (draw_of streams.old.seed) limits leaf.0 act marking.items row.old }
     ensures trap { IfErr result.0 (λ trap. (result.1.items ≡ marking.items) × (row.new ≡ row.old)) }
     ensures timers { row.new.timers ≡ row.old.timers }
     ensures sized { length result.1.items ≡ length marking.items }

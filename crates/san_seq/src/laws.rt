@@ -20,7 +20,7 @@ pub(crate) fn the_next_is_the_laws()
         ≡ next_instant (net_of n draw limits) s }
 {}
 
-/// The events that a run's steps told are the first of its trajectory, which goes on as that of the
+/// The events that a run's steps answered are the first of its trajectory, which goes on as that of the
 /// run that they left; they are no more than the event limit leaves.
 #[tactic(auto, using(crate::proofs::RunLemmas::tells_prefix))]
 pub fn events_are_the_first()

@@ -1,6 +1,7 @@
 //! The renewal of stale leaves' timers.
 
-ghost use Rattle.std.specs.Prelude.{◌≡◌, ◌≤◌, ◌<◌, ◌+◌, ◌*◌, ◌^◌, ℕ, length, slice_get, Some, All};
+ghost use Rattle.std.specs.Prelude.{◌≡◌, ◌≤◌, ◌<◌, ◌+◌, ◌*◌, ℕ, length, slice_get, Some, All};
+ghost use Rattle.san_base.specs.declared.limits.TheConstants.{MAX_DRAWS, MAX_TIME};
 ghost use Rattle.san_clock.specs.Rows.{renewing_by};
 ghost use Rattle.san_draw.specs.Key.{draw_of};
 ghost use Rattle.san_law.specs.Lawful.{AllBelow};
@@ -30,7 +31,7 @@ pub(crate) struct Markings<'a> {
     pub(crate) present: &'a [u32],
 }
 
-/// Renews the timers of a leaf at a time; a trap is told with its activity.
+/// Renews the timers of a leaf at a time; a trap is answered with its activity.
 fn renew_leaf(
     tables: &DelayTables,
     streams: &mut Streams,
@@ -46,8 +47,8 @@ fn renew_leaf(
     requires row { IsRowOf part.now row.old }
     requires streams { 2 * (part.now.first.0 + length part.now.atomic.acts) ≤ streams.old.streams }
     requires small { part.now.first.0 + length part.now.atomic.acts ≤ MAX_ACTS }
-    requires numbers { All (λ n. n + 1 < 2 ^ 40) row.old.delays }
-    requires time { time < 2 ^ 62 }
+    requires numbers { All (λ n. n + 1 < MAX_DRAWS) row.old.delays }
+    requires time { time < MAX_TIME }
     ensures row { renewing_by result row.new
         ≡ renewed_part (draw_of streams.old.seed) part.now time markings.now.stable.now
         markings.now.present.now row.old }
@@ -82,8 +83,8 @@ pub(crate) fn renew_at(
     requires stable { length markings.now.stable.now ≡ length flat.now.initial }
     requires row { (p : Part) → slice_get flat.now.parts leaf.0 ≡ Some p → IsRowOf p row.old }
     requires streams { 2 * acts_of flat.now.parts ≤ streams.old.streams }
-    requires numbers { All (λ n. n + 1 < 2 ^ 40) row.old.delays }
-    requires time { time < 2 ^ 62 }
+    requires numbers { All (λ n. n + 1 < MAX_DRAWS) row.old.delays }
+    requires time { time < MAX_TIME }
     ensures row { (limits : Limits) (s : State) → s.time ≡ time → s.stable ≡ markings.now.stable.now
         → s.marking ≡ markings.now.present.now → renewing_by result row.new
         ≡ law.renewed_at (net_of flat.now (draw_of streams.old.seed) limits) s leaf.0 row.old }
@@ -96,7 +97,7 @@ pub(crate) fn renew_at(
     renew_leaf(tables, streams, time, flat.part(leaf).get(), markings, row)
 }
 
-/// Renews all stale leaves' timers at a time, up to the first trap, which is told with its leaf and
+/// Renews all stale leaves' timers at a time, up to the first trap, which is answered with its leaf and
 /// activity.
 pub(crate) fn renew_rows(
     flat: &Flat,
@@ -114,8 +115,8 @@ pub(crate) fn renew_rows(
     requires flags { length stale.now ≡ length flat.now.parts }
     requires idle { AreFresh (draw_of streams.old.seed) flat.now.parts stale.now time
         markings.now.stable.now markings.now.present.now rows.old }
-    requires numbers { (j : ℕ) → All (λ n. n + 1 < 2 ^ 40) (row_at rows.old j).delays }
-    requires time { time < 2 ^ 62 }
+    requires numbers { (j : ℕ) → All (λ n. n + 1 < MAX_DRAWS) (row_at rows.old j).delays }
+    requires time { time < MAX_TIME }
     ensures rows { (limits : Limits) (s : State) → s.time ≡ time → s.stable ≡ markings.now.stable.now
         → s.marking ≡ markings.now.present.now → renewal_by result rows.new
         ≡ law.renewed_from (net_of flat.now (draw_of streams.old.seed) limits) s 0 rows.old }

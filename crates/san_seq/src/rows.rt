@@ -1,7 +1,8 @@
 //! The rows of all leaves, and of their timers the one that is due first.
 
 ghost use Rattle.std.specs.Option.{option_map};
-ghost use Rattle.std.specs.Prelude.{All, IfErr, IfOk, None, Some, length, map, slice_get, slice_index, slice_set, ℕ, ◌*◌, ◌+◌, ◌<◌, ◌^◌, ◌≡◌, ◌≤◌};
+ghost use Rattle.std.specs.Prelude.{All, IfErr, IfOk, None, Some, length, map, slice_get, slice_index, slice_set, ℕ, ◌*◌, ◌+◌, ◌<◌, ◌≡◌, ◌≤◌};
+ghost use Rattle.san_base.specs.declared.limits.TheConstants.{MAX_DRAWS, MAX_TIME};
 ghost use Rattle.san_clock.specs.Rows.{renewing_by, timer_in};
 ghost use Rattle.san_draw.specs.Key.{draw_of};
 ghost use Rattle.san_law.specs.Net.{and_timer, least_timer, sooner_act, without_timer};
@@ -11,7 +12,7 @@ ghost use Rattle.san_law.specs.State.{State};
 ghost use Rattle.san_net.specs.Laid.{acts_of};
 ghost use Rattle.san_net.specs.Network.{net_of};
 ghost use Rattle.san_net.specs.declared.part.Part.{Part};
-ghost use Rattle.san_seq.specs.inner.Completions.{completed_by, leaf_told};
+ghost use Rattle.san_seq.specs.inner.Completions.{completed_by, leaf_left};
 ghost use Rattle.san_seq.specs.inner.Dues.{due_in, first_due};
 ghost use Rattle.san_seq.specs.inner.Openings.{rows_of};
 ghost use Rattle.san_seq.specs.inner.Rows.{AreRows, IsLike, row_at};
@@ -169,7 +170,7 @@ impl Rows {
         follow(&mut self.dues, leaf, row);
     }
 
-    /// Renews the timers of a leaf of the network at a time; a trap is told with its activity.
+    /// Renews the timers of a leaf of the network at a time; a trap is answered with its activity.
     pub(crate) fn renew(
         &mut self,
         flat: &Flat,
@@ -184,8 +185,8 @@ impl Rows {
         requires stable { length markings.now.stable.now ≡ length flat.now.initial }
         requires rows { AreRows flat.now.parts self.old }
         requires streams { 2 * acts_of flat.now.parts ≤ streams.old.streams }
-        requires numbers { All (λ n. n + 1 < 2 ^ 40) (row_at self.old leaf.0).delays }
-        requires time { time < 2 ^ 62 }
+        requires numbers { All (λ n. n + 1 < MAX_DRAWS) (row_at self.old leaf.0).delays }
+        requires time { time < MAX_TIME }
         ensures row { (limits : Limits) (s : State) → s.time ≡ time → s.stable
             ≡ markings.now.stable.now → s.marking ≡ markings.now.present.now → renewing_by result
             (row_at self.new leaf.0) ≡ law.renewed_at (net_of flat.now (draw_of streams.old.seed)
@@ -219,9 +220,9 @@ impl Rows {
         requires sized { length marking.items ≡ length flat.now.initial }
         requires rows { AreRows flat.now.parts self.old }
         requires streams { 2 * acts_of flat.now.parts ≤ streams.old.streams }
-        requires number { slice_index (row_at self.old leaf.0).cases act + 1 < 2 ^ 40 }
+        requires number { slice_index (row_at self.old leaf.0).cases act + 1 < MAX_DRAWS }
         ensures done { (limits : Limits) → completed_by result.0 result.1.items (row_at self.new
-            leaf.0) ≡ leaf_told flat.now (draw_of streams.old.seed) limits leaf.0 act marking.items
+            leaf.0) ≡ leaf_left flat.now (draw_of streams.old.seed) limits leaf.0 act marking.items
             (row_at self.old leaf.0) }
         ensures others { self.new ≡ slice_set self.old leaf.0 (row_at self.new leaf.0) }
         ensures trap { IfErr result.0 (λ trap. (result.1.items ≡ marking.items) × (self.new

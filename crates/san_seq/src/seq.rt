@@ -6,7 +6,7 @@ ghost use Rattle.san_draw.specs.Key.{draw_of};
 ghost use Rattle.san_net.specs.Network.{net_of};
 ghost use Rattle.san_seq.specs.FlatRun as run;
 ghost use Rattle.san_seq.specs.Overs.{limits_in};
-ghost use Rattle.san_seq.specs.Telling.{stepped_of};
+ghost use Rattle.san_seq.specs.Outcomes.{stepped_of};
 ghost use Rattle.san_seq.specs.inner.Held as held;
 ghost use Rattle.san_seq.specs.inner.Nexts.{next_in};
 
@@ -59,7 +59,7 @@ pub struct Seq<'a> {
 }
 
 impl<'a> Model for Seq<'a> {
-    ghost use Rattle.san_seq.specs.FlatRun.{Run, going_of};
+    ghost use Rattle.san_seq.specs.FlatRun.{Run, run_phase_of};
     ghost use Rattle.san_seq.specs.inner.Held.{IsHeld};
     ghost use Rattle.san_net.specs.contracts.part.Part as of_part;
     ghost use Rattle.std.specs.Coded.{codes};
@@ -68,7 +68,7 @@ impl<'a> Model for Seq<'a> {
 
     ghost coded = { Prim.hlevel (codes, of_part.the_row.coded) };
 
-    ghost view = { λ r. record { network = r.flat.now; seed = r.streams.seed; limits = r.limits; going = going_of r.phase } };
+    ghost view = { λ r. record { network = r.flat.now; seed = r.streams.seed; limits = r.limits; run_phase = run_phase_of r.phase } };
 
     ghost invariant = { λ r. IsHeld r.flat.now r.limits r.streams.streams r.streams.seed
         r.stale r.phase };
@@ -84,12 +84,12 @@ fn stepped(
     phase: Phase,
 ) -> (Result<Event, Ending>, Phase)
     requires run { held.IsRun flat.now limits.now streams.old.streams streams.old.seed
-        stale.old (run.going_in phase) }
-    ensures step { (result.0, run.going_in result.1)
+        stale.old (run.run_phase_in phase) }
+    ensures step { (result.0, run.run_phase_in result.1)
         ≡ run.stepped flat.now (net_of flat.now (draw_of streams.old.seed) (limits_in limits.now))
-        (run.going_in phase) }
+        (run.run_phase_in phase) }
     ensures run { held.IsRun flat.now limits.now streams.old.streams streams.old.seed
-        stale.new (run.going_in result.1) }
+        stale.new (run.run_phase_in result.1) }
     ensures streams { streams.new ≡ streams.old }
 {
     match phase {
@@ -120,9 +120,9 @@ fn where_stable(next: Next, state: &State) -> Option<Stable>
 /// Where a phase of a run is stable.
 fn stable_at(flat: &Flat, stale: &Flags, limits: &Limits, phase: &Phase) -> Option<Stable>
     requires { (streams seed : ℕ) × held.IsRun flat.now limits.now streams seed stale.now
-        (run.going_in phase.now) }
+        (run.run_phase_in phase.now) }
     ensures { (draw : ℕ → ℕ → ℕ) → result
-        ≡ run.stable_in (net_of flat.now draw (limits_in limits.now)) (run.going_in phase.now) }
+        ≡ run.stable_in (net_of flat.now draw (limits_in limits.now)) (run.run_phase_in phase.now) }
 {
     match phase {
         Phase::Running(state) => where_stable(next_of(flat, stale, state), state),
@@ -180,7 +180,7 @@ impl<'a> Seq<'a> {
 
     /// The next event, or the ending.
     fn answer(&mut self) -> Result<Event, Ending>
-        ensures told { result ≡ (run.step_of self.old).0 }
+        ensures answered { result ≡ (run.step_of self.old).0 }
         ensures left { self.new ≡ run.after_step self.old }
     {
         match self.phase.take() {
@@ -204,7 +204,7 @@ impl<'a> Seq<'a> {
     /// timers are renewed and the one that is due first completes. Once the run is over, the same
     /// again.
     pub fn step(&mut self) -> Stepped
-        ensures told { result ≡ stepped_of (run.step_of self.old).0 }
+        ensures answered { result ≡ stepped_of (run.step_of self.old).0 }
         ensures left { self.new ≡ run.after_step self.old }
     {
         stepped_of(self.answer())
@@ -224,7 +224,7 @@ impl<'a> Seq<'a> {
 
     /// The values of the places, by their numbers.
     pub fn marking(&self) -> &[u32]
-        ensures { result.now ≡ run.marking_of self.now.going }
+        ensures { result.now ≡ run.marking_of self.now.run_phase }
     {
         match &self.phase {
             Some(Phase::Running(state)) => state.marking.as_slice(),

@@ -1,7 +1,8 @@
 //! The state of a run, and completions in it within the limits.
 
 ghost use Rattle.std.specs.Option.{option_map};
-ghost use Rattle.std.specs.Prelude.{length, slice_index, ℕ, ◌*◌, ◌+◌, ◌<◌, ◌^◌, ◌≡◌, ◌≤◌};
+ghost use Rattle.std.specs.Prelude.{length, slice_index, ℕ, ◌*◌, ◌+◌, ◌<◌, ◌≡◌, ◌≤◌};
+ghost use Rattle.san_base.specs.declared.limits.TheConstants.{MAX_COMPLETIONS, MAX_DRAWS};
 ghost use Rattle.san_draw.specs.Key.{draw_of};
 ghost use Rattle.san_law.specs.Network.{Limits as Bounds};
 ghost use Rattle.san_law.specs.Step as law;
@@ -9,7 +10,7 @@ ghost use Rattle.san_net.specs.Laid.{acts_of};
 ghost use Rattle.san_net.specs.Network.{Network, net_of};
 ghost use Rattle.san_net.specs.Tables.{IsActOf};
 ghost use Rattle.san_seq.specs.Overs.{limits_in};
-ghost use Rattle.san_seq.specs.Telling.{ending_in, told_of};
+ghost use Rattle.san_seq.specs.Outcomes.{ending_in, event_or_ending};
 ghost use Rattle.san_seq.specs.inner.Rows.{AreRows, row_at};
 ghost use Rattle.san_seq.specs.inner.States.{complete_in, instant_in};
 
@@ -63,10 +64,10 @@ pub(crate) fn complete(
     requires sized { length state.marking ≡ length flat.now.initial }
     requires rows { AreRows flat.now.parts state.rows }
     requires streams { 2 * acts_of flat.now.parts ≤ streams.old.streams }
-    requires number { slice_index (row_at state.rows leaf.0).cases act + 1 < 2 ^ 40 }
-    requires count { state.count + 1 < 2 ^ 40 }
-    ensures told { (limits : Bounds) → result.0
-        ≡ told_of flat.now (complete_in flat.now (draw_of streams.old.seed) limits state burst
+    requires number { slice_index (row_at state.rows leaf.0).cases act + 1 < MAX_DRAWS }
+    requires count { state.count + 1 < MAX_COMPLETIONS }
+    ensures answered { (limits : Bounds) → result.0
+        ≡ event_or_ending flat.now (complete_in flat.now (draw_of streams.old.seed) limits state burst
         leaf.0 act).0 }
     ensures left { (limits : Bounds) → result.1
         ≡ (complete_in flat.now (draw_of streams.old.seed) limits state burst leaf.0 act).1 }
@@ -141,11 +142,11 @@ pub(crate) fn complete_instant(
     requires sized { length state.marking ≡ length flat.now.initial }
     requires rows { AreRows flat.now.parts state.rows }
     requires streams { 2 * acts_of flat.now.parts ≤ streams.old.streams }
-    requires number { slice_index (row_at state.rows leaf.0).cases act + 1 < 2 ^ 40 }
-    requires count { state.count + 1 < 2 ^ 40 }
-    requires burst { state.burst + 1 < 2 ^ 40 }
-    ensures told { result.0
-        ≡ told_of flat.now (instant_in flat.now (draw_of streams.old.seed) (limits_in limits.now)
+    requires number { slice_index (row_at state.rows leaf.0).cases act + 1 < MAX_DRAWS }
+    requires count { state.count + 1 < MAX_COMPLETIONS }
+    requires burst { state.burst + 1 < MAX_COMPLETIONS }
+    ensures answered { result.0
+        ≡ event_or_ending flat.now (instant_in flat.now (draw_of streams.old.seed) (limits_in limits.now)
         state leaf.0 act).0 }
     ensures left { result.1
         ≡ (instant_in flat.now (draw_of streams.old.seed) (limits_in limits.now) state leaf.0
@@ -175,10 +176,10 @@ pub(crate) fn complete_timed(
     requires sized { length state.marking ≡ length flat.now.initial }
     requires rows { AreRows flat.now.parts state.rows }
     requires streams { 2 * acts_of flat.now.parts ≤ streams.old.streams }
-    requires number { slice_index (row_at state.rows leaf.0).cases act + 1 < 2 ^ 40 }
-    requires count { state.count + 1 < 2 ^ 40 }
-    ensures told { result.0
-        ≡ told_of flat.now (law.fire (net_of flat.now (draw_of streams.old.seed)
+    requires number { slice_index (row_at state.rows leaf.0).cases act + 1 < MAX_DRAWS }
+    requires count { state.count + 1 < MAX_COMPLETIONS }
+    ensures answered { result.0
+        ≡ event_or_ending flat.now (law.fire (net_of flat.now (draw_of streams.old.seed)
         (limits_in limits.now)) state leaf.0 act).0 }
     ensures left { result.1
         ≡ (law.fire (net_of flat.now (draw_of streams.old.seed) (limits_in limits.now)) state leaf.0

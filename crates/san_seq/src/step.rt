@@ -11,6 +11,7 @@ ghost use Rattle.san_law.specs.Step as law_step;
 ghost use Rattle.san_net.specs.Laid.{acts_of};
 ghost use Rattle.san_net.specs.Network.{net_of};
 ghost use Rattle.san_base.specs.Limits.{IsInRange};
+ghost use Rattle.san_base.specs.declared.limits.TheConstants.{MAX_TIME};
 ghost use Rattle.san_seq.specs.inner.Dues.{due_in};
 ghost use Rattle.san_seq.specs.inner.Known.{AreFresh, AreIdle, AreQuiet, AreSettled, HaveNothing, HaveSame};
 ghost use Rattle.san_seq.specs.inner.Nexts.{next_in};
@@ -60,7 +61,7 @@ fn renew(
         state.stable state.marking state.rows }
     requires numbers { AreDrawn state.count state.rows }
     requires count { state.count < 2 ^ 30 }
-    requires time { state.time < 2 ^ 62 }
+    requires time { state.time < MAX_TIME }
     ensures rows { (bounds : Bounds) → renewal_by result.0 result.1.rows
         ≡ renewed_from (net_of flat.now (draw_of streams.old.seed) bounds) state 0 state.rows }
     ensures left { result.1 ≡ with_rows result.1.rows state }

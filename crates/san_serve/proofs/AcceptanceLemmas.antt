@@ -9,7 +9,7 @@ use Rattle.san_text.specs.declared.text.Refusal.{Refusal}
 use Rattle.san_text.proofs.CountLemmas.{spots_length}
 use Rattle.san_check.specs.build.Cells.{elements_of}
 use Rattle.san_check.specs.Checked.{IsRead}
-use Rattle.san_check.specs.walk.Entries.{code, ◌else◌, told}
+use Rattle.san_check.specs.walk.Entries.{code, ◌else◌, reported}
 use Rattle.san_check.specs.build.Atomic.{atomics_of}
 use Rattle.san_check.specs.build.Composition.{nodes_of, root_of}
 use Rattle.san_check.specs.build.Reward.{rewards_of}
@@ -85,24 +85,24 @@ pub passes : (text : List ℕ) (x : Parsed) (r : Result Network NotAccepted) →
     → AcceptsNetwork r (accepted text)
 passes text x r is none h = subst (AcceptsNetwork r) (sym (accepted_by text x None is none)) h
 
-told_at : (text : List ℕ) (x : Parsed) (number word : ℕ) (f : Option Fault) → ((g : Fault) → f ≡ Some g → g.word ≤ 4294967295) → option_map told f ≡ Some (record { code = number; word = word })
+reported_at : (text : List ℕ) (x : Parsed) (number word : ℕ) (f : Option Fault) → ((g : Fault) → f ≡ Some g → g.word ≤ 4294967295) → option_map reported f ≡ Some (record { code = number; word = word })
     → checked text x f ≡ Err (refused number text (offset_of_word x word))
-told_at text x number word None small e = absurd cc
-told_at text x number word (Some g) small e =
-    let is : told g ≡ record { code = number; word = word } = cc in
+reported_at text x number word None small e = absurd cc
+reported_at text x number word (Some g) small e =
+    let is : reported g ≡ record { code = number; word = word } = cc in
     let below = small g refl in
     let first : g.code ≡ number = ap (λ (h : Fault). h.code) is in
     let second : g.word ≡ word = omega (arith, below, ap (λ (h : Fault). h.word) is) in
     ap (λ (n : ℕ). let r : Result Network Refusal = Err (refused n text (offset_of_word x g.word)) in r) first
     ∙ ap (λ (w : ℕ). let r : Result Network Refusal = Err (refused number text (offset_of_word x w)) in r) second
 
-pub fails : (text : List ℕ) (x : Parsed) (number word : ℕ) → length text ≤ MAX_TEXT_BYTES → parsed text ≡ Ok x → option_map told (syntax_fault x.syntax) ≡ Some (record { code = number; word = word })
+pub fails : (text : List ℕ) (x : Parsed) (number word : ℕ) → length text ≤ MAX_TEXT_BYTES → parsed text ≡ Ok x → option_map reported (syntax_fault x.syntax) ≡ Some (record { code = number; word = word })
     → accepted text ≡ Err (refused number text (offset_of_word x word))
 fails text x number word short is e =
     let few = few_spots text x is in
     let same = spots_length text x is in
     accepted_by text x (syntax_fault x.syntax) is refl
-    ∙ told_at text x number word (syntax_fault x.syntax) (λ g at. let there = word_is_there x.syntax g at in omega (arith, few, same, there, short)) e
+    ∙ reported_at text x number word (syntax_fault x.syntax) (λ g at. let there = word_is_there x.syntax g at in omega (arith, few, same, there, short)) e
 
 -- ---- grammar
 

@@ -1,4 +1,4 @@
--- A text has no more words than bytes, so each word's number is told as it is.
+-- A text has no more words than bytes, so each word's number is shown as it is.
 use Rattle.std.proofs.Common.{◌≡◌, ℕ, suc, ◌≤◌, Bool, true, false, cond, List, [], ◌∷◌, length, Ok, ap, arith}
 use Rattle.san_lex.specs.Lexer.{Located}
 use Rattle.san_check.proofs.FormedLemmas.{tokens_within}

@@ -1,14 +1,14 @@
 -- The line of the notes.
 use Rattle.std.specs.Prelude.{ℕ, ◌≡◌, ◌⊎◌, ◌++◌, nat_lt, if◌then◌else◌, List, [], ◌∷◌, Option, codes}
 use Rattle.std.specs.Fmt.{decimal}
-use Rattle.san_base.specs.Flow.{Appends, AppendsPrefix, Rose}
+use Rattle.san_base.specs.Flow.{Appends, AppendsPrefix, CountRose}
 use Rattle.san_base.specs.declared.status.Status.{Status}
 use Rattle.san_base.specs.declared.status.Status.TheVariants as status
 use Rattle.san_text.specs.declared.text.Refusal.{Refusal}
 
 -- the notes got this line, or a front part of it where their count of faults rose
 abbrev pub Noted : Option (List ℕ) → Option (List ℕ) → ℕ → ℕ → List ℕ → Type 0
-Noted old new before now line = Appends old new line ⊎ (Rose before now × AppendsPrefix old new line)
+Noted old new before now line = Appends old new line ⊎ (CountRose before now × AppendsPrefix old new line)
 
 -- two digits
 abbrev pub code_digits : ℕ → List ℕ

@@ -2,7 +2,7 @@
 //! programs.
 
 ghost use Rattle.std.specs.Prelude.{◌≡◌, List, ℕ, Ok};
-ghost use Rattle.san_base.specs.Flow.{Rose};
+ghost use Rattle.san_base.specs.Flow.{CountRose};
 ghost use Rattle.san_serve.specs.Answers.{Answers, IsRefused};
 ghost use Rattle.san_serve.specs.Notes.{IsLine, Noted};
 ghost use Rattle.san_serve.specs.inner.Serving.{Serves, answer_of};
@@ -36,8 +36,8 @@ fn serve_source<T: Task, S: Source, K: Sink>(
 ) -> Result<Status, Refusal>
     ensures answer { Serves (T.meaning task.now) result (S.left source.old) (S.left source.new)
         (K.held sink.old) (K.held sink.new) }
-    ensures read { result ≡ Ok Status.ReadFault → Rose (S.faults source.old) (S.faults source.new) }
-    ensures write { result ≡ Ok Status.WriteFault → Rose (K.faults sink.old) (K.faults sink.new) }
+    ensures read { result ≡ Ok Status.ReadFault → CountRose (S.faults source.old) (S.faults source.new) }
+    ensures write { result ≡ Ok Status.WriteFault → CountRose (K.faults sink.old) (K.faults sink.new) }
 {
     let bound = task.bound();
     match take_all(alloc, source, bound.bytes) {
@@ -64,8 +64,8 @@ pub fn serve_noted<T: Task, S: Source, K: Sink, N: Sink>(
         (T.meaning task.now).refuses (S.left source.old) (S.left source.new)) line
         × Noted (N.held notes.old) (N.held notes.new) (N.faults notes.old) (N.faults notes.new) line }
     ensures taken { result ≡ Status.Words → ⊥ }
-    ensures read { result ≡ Status.ReadFault → Rose (S.faults source.old) (S.faults source.new) }
-    ensures write { result ≡ Status.WriteFault → Rose (K.faults sink.old) (K.faults sink.new) }
+    ensures read { result ≡ Status.ReadFault → CountRose (S.faults source.old) (S.faults source.new) }
+    ensures write { result ≡ Status.WriteFault → CountRose (K.faults sink.old) (K.faults sink.new) }
 {
     let answer = serve_source(alloc, task, source, sink);
     conclude(alloc, answer, notes)

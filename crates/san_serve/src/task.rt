@@ -1,7 +1,7 @@
 //! What a program does with the bytes that it read.
 
 ghost use Rattle.std.specs.Prelude.{◌≡◌, ◌≤◌, length};
-ghost use Rattle.san_base.specs.Flow.{Rose};
+ghost use Rattle.san_base.specs.Flow.{CountRose};
 ghost use Rattle.san_base.specs.declared.limits.TheConstants.{MAX_TEXT_BYTES};
 ghost use Rattle.san_serve.specs.Answers.{ServesBytes};
 
@@ -41,5 +41,5 @@ pub trait Task {
         requires { length bytes.now ≤ (meaning self.now).bound.bytes }
         ensures answer { ServesBytes (meaning self.now) result bytes.now (K.held sink.old)
             (K.held sink.new) }
-        ensures cause { result ≡ Served.WriteFault → Rose (K.faults sink.old) (K.faults sink.new) };
+        ensures cause { result ≡ Served.WriteFault → CountRose (K.faults sink.old) (K.faults sink.new) };
 }

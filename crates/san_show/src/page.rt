@@ -147,11 +147,11 @@ pub struct Page {
 }
 
 impl Model for Page {
-    ghost use Rattle.san_show.specs.inner.Pages.{Written, before_of as before_told};
+    ghost use Rattle.san_show.specs.inner.Pages.{Written, before_of as before_shown};
 
     ghost Value = { Written };
 
-    ghost view = { λ p. record { bytes = p.bytes.items; before = before_told p.before; depth = p.depth } };
+    ghost view = { λ p. record { bytes = p.bytes.items; before = before_shown p.before; depth = p.depth } };
 }
 
 impl Page {

@@ -1,4 +1,5 @@
 -- Delays and activities.
+use Rattle.san_base.proofs.Bools.{both_true, and_false}
 use Rattle.std.proofs.Common.{◌≡◌, ℕ, Bool, true, false, ◌&&◌, List, [], ◌∷◌, ◌++◌, Option, Some, None, refl, sym, ap}
 use Rattle.std.proofs.lemmas.List.{append-nil}
 use Rattle.std.specs.Prelude.{codes}
@@ -22,7 +23,7 @@ use Rattle.san_text.specs.Steps.{next_keyword}
 use Rattle.san_text.specs.Activities.{starts_input, entry_at, more_entry, entries_at, det_at, uniform_at, geom_at, table_at, dist_at, react_at, pair_at, timing_at, timed_at, is_called, priority_at, instant_at, act_at, starts_act, starts_output}
 use Rattle.san_text.specs.Spelling.{spelling}
 use Rattle.san_text.specs.ActivityWords.{output_words, case_words, entry_words, with_commas, dist_words, react_words, pair_words, timing_words, priority_words, act_by, act_words}
-use Rattle.san_text.proofs.FrontLemmas.{next_is, next_self, and_false, both_true}
+use Rattle.san_text.proofs.FrontLemmas.{next_is, next_self}
 use Rattle.san_text.proofs.StepLemmas.{seq, sign_then, done, choice, maybe, Follow, Any, Law, Steps, law_of, sign_step, seq_step, seq_through, done_step, choice_step, maybe_law}
 use Rattle.san_text.proofs.BasicLemmas.{name_law, number_law, Looks, expr_keeps, Items, Nothing, items_of, list_law}
 use Rattle.san_text.proofs.CommaLemmas.{NoComma, commas_law}

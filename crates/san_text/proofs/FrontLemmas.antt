@@ -137,11 +137,3 @@ begins_opens (Fixed (sign.Mark mark.OpenParen) ∷ ws) e = refl
 begins_opens (Fixed s ∷ ws) e = absurd cc
 
 -- ---- tests of two parts
-
-pub and_false : (b : Bool) → (b && false) ≡ false
-and_false true = refl
-and_false false = refl
-
-pub both_true : (a b : Bool) → (a && b) ≡ true → (a ≡ true) × (b ≡ true)
-both_true true b h = (refl, h)
-both_true false b h = absurd cc

@@ -13,7 +13,7 @@ use Rattle.san_text.specs.declared.expression.Begin.TheVariants as begin
 use Rattle.san_text.specs.Words.{Goes, By, Ends, Index, look, at_level, turns_of, is_next, tail, has_arrays}
 use Rattle.san_text.specs.Steps.{Fault, Illegal, Reads, ◌>>=◌}
 use Rattle.san_text.specs.Expressions.{Part, Reader, room, closing, turned, more, chain, levels, indexed, grouped, begun, beginning, unary, expr}
-use Rattle.san_text.proofs.LocalLemmas.{LocalTo, Local, bind_local, first_local, cond_local, skip_local, illegal_local, long_local, made_local}
+use Rattle.san_text.proofs.LocalLemmas.{LocalTo, Local, bind_local, first_local, cond_local, skip_local, illegal_local, long_local, made_local, next_first}
 
 abbrev behind : Ast × ℕ × List Word → List Word
 behind p = p.2
@@ -36,10 +36,6 @@ room_local : {X : Type 0} {rest : X → List Word} {put : X → List Word → X}
 unfolding room
 room_local q l zero = long_local
 room_local q l (suc k) = l k
-
-next_first : (s : Sign) (w : Word) (us vs : List Word) → is_next s (w ∷ us) ≡ is_next s (w ∷ vs)
-unfolding is_next
-next_first s w us vs = refl
 
 look_first : (w : Word) (us vs : List Word) → look (w ∷ us) ≡ look (w ∷ vs)
 unfolding look

@@ -31,6 +31,7 @@ use Rattle.san_text.proofs.FrontLemmas.{next_is}
 use Rattle.san_text.proofs.StepLemmas.{seq, sign_then, done, choice, maybe, guarded}
 use Rattle.san_text.proofs.LocalLemmas.{Local, bind_local, first_local, cond_local, skip_local, illegal_local, deep_local, done_local, seq_local, sign_local, choice_local, maybe_local, guarded_local, name_local, number_local, weight_local, Firsts, Listed, all_local, gathered_local, Takes, takes_sign, takes_choice, listed, next_first, name_first}
 use Rattle.san_text.proofs.LocalExprLemmas.{expr_local}
+use Rattle.san_text.proofs.StmtLemmas.{empty_starts, none_starts}
 
 -- ---- statements
 
@@ -57,14 +58,6 @@ named_local version body l None = first_local (is_next (sign.Keyword keyword.If)
 stmt_local : (version : ℕ) (body : Body) → Local body → Local (stmt_at version body)
 stmt_local version body l = first_local name_of (stmt_by version body) name_first (named_local version body l)
 
-empty_starts : starts_stmt [] ≡ true → ⊥
-unfolding starts_stmt name_of is_next
-empty_starts e = cc
-
-no_stmt : starts_stmt [] ≡ false
-unfolding starts_stmt name_of is_next
-no_stmt = refl
-
 pub no_word : (s : Sign) → is_next s [] ≡ false
 unfolding is_next
 no_word s = refl
@@ -86,7 +79,7 @@ stmt_first (Name s) us vs = refl
 stmt_first (Fixed s) us vs = refl
 
 stmts_listed : (version : ℕ) (body : Body) → Local body → Listed starts_stmt (stmt_at version body)
-stmts_listed version body l = record { none = no_stmt; first = stmt_first; eats = λ ws p s e. named_takes version body l (name_of ws) ws p s e; each = stmt_local version body l }
+stmts_listed version body l = record { none = none_starts; first = stmt_first; eats = λ ws p s e. named_takes version body l (name_of ws) ws p s e; each = stmt_local version body l }
 
 inner_local : (version : ℕ) (body : Body) → Local body → Local (inner version body)
 unfolding inner seq sign_then done

@@ -110,7 +110,7 @@ pub cond_local : {X : Type 0} {rest : X → List Word} {put : X → List Word �
 cond_local r q one two true = one
 cond_local r q one two false = two
 
-tail_le : (ws : List Word) → length (tail ws) ≤ length ws
+pub tail_le : (ws : List Word) → length (tail ws) ≤ length ws
 tail_le [] = omega arith
 tail_le (w ∷ ws) = omega arith
 

@@ -1,4 +1,5 @@
 -- Declarations of places.
+use Rattle.san_base.proofs.Bools.{both_true, and_false}
 use Rattle.std.proofs.Common.{◌≡◌, ℕ, Bool, true, false, ◌&&◌, List, [], ◌∷◌, ◌++◌, Option, Some, None, refl, ap, ◌∙◌}
 use Rattle.san_lex.specs.declared.keyword.Keyword.TheVariants as keyword
 use Rattle.san_lex.specs.declared.sign.Mark.TheVariants as mark
@@ -9,7 +10,7 @@ use Rattle.san_text.specs.Words.{is_next, tail, has_arrays}
 use Rattle.san_text.specs.Steps.{next_mark, next_keyword}
 use Rattle.san_text.specs.Activities.{length_at, initial_at, place_at}
 use Rattle.san_text.specs.ActivityWords.{length_words, initial_words, place_words}
-use Rattle.san_text.proofs.FrontLemmas.{next_is, next_self, and_false, both_true}
+use Rattle.san_text.proofs.FrontLemmas.{next_is, next_self}
 use Rattle.san_text.proofs.StepLemmas.{seq, sign_then, done, maybe, Follow, Any, Law, law_of, sign_step, seq_step, seq_through, done_step, maybe_law}
 use Rattle.san_text.proofs.BasicLemmas.{name_law, number_law, Items, Nothing, items_of}
 

@@ -50,67 +50,67 @@ whole_local = seq_local head_local (λ v. seq_local (all_local (models_listed v)
 
 -- ---- both read alike
 
-abbrev told : Result (Syntax × ℕ) Fault → Result Syntax Fault
-told (Ok x) = Ok x.0
-told (Err f) = Err f
+abbrev bare : Result (Syntax × ℕ) Fault → Result Syntax Fault
+bare (Ok x) = Ok x.0
+bare (Err f) = Err f
 
 abbrev plain : Result (Syntax × List Word) Fault → Result Syntax Fault
 plain (Ok x) = Ok x.0
 plain (Err f) = Err f
 
-alike : {A : Type 0} (r : Result A Fault) (k : A → Result (Syntax × ℕ) Fault) (q : A → Result (Syntax × List Word) Fault) → ((x : A) → told (k x) ≡ plain (q x)) → told (r >>= k) ≡ plain (r >>= q)
+alike : {A : Type 0} (r : Result A Fault) (k : A → Result (Syntax × ℕ) Fault) (q : A → Result (Syntax × List Word) Fault) → ((x : A) → bare (k x) ≡ plain (q x)) → bare (r >>= k) ≡ plain (r >>= q)
 alike (Ok x) k q h = h x
 alike (Err f) k q h = refl
 
-abbrev Told : Type 0
-Told = (List ℕ × ℕ) × List Word → Result (Syntax × ℕ) Fault
+abbrev WithLength : Type 0
+WithLength = (List ℕ × ℕ) × List Word → Result (Syntax × ℕ) Fault
 
 abbrev Plain : Type 0
 Plain = List ℕ × List Word → Result (Syntax × List Word) Fault
 
-ends_alike : (n : List ℕ) (l : ℕ) (k : Told) (q : Plain) → ((n : List ℕ) (l : ℕ) (us : List Word) → told (k ((n, l), us)) ≡ plain (q (n, us))) → (r : Result (List Word) Fault)
-    → told ((r >>= λ us. Ok ((n, l), us)) >>= k) ≡ plain ((r >>= λ us. Ok (n, us)) >>= q)
+ends_alike : (n : List ℕ) (l : ℕ) (k : WithLength) (q : Plain) → ((n : List ℕ) (l : ℕ) (us : List Word) → bare (k ((n, l), us)) ≡ plain (q (n, us))) → (r : Result (List Word) Fault)
+    → bare ((r >>= λ us. Ok ((n, l), us)) >>= k) ≡ plain ((r >>= λ us. Ok (n, us)) >>= q)
 ends_alike n l k q h (Ok us) = h n l us
 ends_alike n l k q h (Err f) = refl
 
-names_alike : (s : List Word) (k : Told) (q : Plain) → ((n : List ℕ) (l : ℕ) (us : List Word) → told (k ((n, l), us)) ≡ plain (q (n, us))) → (r : Result (List ℕ × List Word) Fault)
-    → told ((r >>= λ n. sign_at (sign.Mark mark.Semicolon) n.1 >>= λ us. Ok ((n.0, length s), us)) >>= k) ≡ plain ((r >>= λ n. sign_at (sign.Mark mark.Semicolon) n.1 >>= λ us. Ok (n.0, us)) >>= q)
+names_alike : (s : List Word) (k : WithLength) (q : Plain) → ((n : List ℕ) (l : ℕ) (us : List Word) → bare (k ((n, l), us)) ≡ plain (q (n, us))) → (r : Result (List ℕ × List Word) Fault)
+    → bare ((r >>= λ n. sign_at (sign.Mark mark.Semicolon) n.1 >>= λ us. Ok ((n.0, length s), us)) >>= k) ≡ plain ((r >>= λ n. sign_at (sign.Mark mark.Semicolon) n.1 >>= λ us. Ok (n.0, us)) >>= q)
 names_alike s k q h (Ok n) = ends_alike n.0 (length s) k q h (sign_at (sign.Mark mark.Semicolon) n.1)
 names_alike s k q h (Err f) = refl
 
-keys_alike : (k : Told) (q : Plain) → ((n : List ℕ) (l : ℕ) (us : List Word) → told (k ((n, l), us)) ≡ plain (q (n, us))) → (r : Result (List Word) Fault)
-    → told ((r >>= λ s. name_at s >>= λ n. sign_at (sign.Mark mark.Semicolon) n.1 >>= λ us. Ok ((n.0, length s), us)) >>= k) ≡ plain ((r >>= λ s. name_at s >>= λ n. sign_at (sign.Mark mark.Semicolon) n.1 >>= λ us. Ok (n.0, us)) >>= q)
+keys_alike : (k : WithLength) (q : Plain) → ((n : List ℕ) (l : ℕ) (us : List Word) → bare (k ((n, l), us)) ≡ plain (q (n, us))) → (r : Result (List Word) Fault)
+    → bare ((r >>= λ s. name_at s >>= λ n. sign_at (sign.Mark mark.Semicolon) n.1 >>= λ us. Ok ((n.0, length s), us)) >>= k) ≡ plain ((r >>= λ s. name_at s >>= λ n. sign_at (sign.Mark mark.Semicolon) n.1 >>= λ us. Ok (n.0, us)) >>= q)
 keys_alike k q h (Ok s) = names_alike s k q h (name_at s)
 keys_alike k q h (Err f) = refl
 
-system_alike : (ws : List Word) (k : Told) (q : Plain) → ((n : List ℕ) (l : ℕ) (us : List Word) → told (k ((n, l), us)) ≡ plain (q (n, us))) → told (system_at ws >>= k) ≡ plain (system_name ws >>= q)
+system_alike : (ws : List Word) (k : WithLength) (q : Plain) → ((n : List ℕ) (l : ℕ) (us : List Word) → bare (k ((n, l), us)) ≡ plain (q (n, us))) → bare (system_at ws >>= k) ≡ plain (system_name ws >>= q)
 unfolding system_at system_name seq sign_then done
 system_alike ws k q h = keys_alike k q h (sign_at (sign.Keyword keyword.System) ws)
 
 abbrev at_end : Result ℕ Fault
 at_end = Ok 0
 
-finish_by : (b : Bool) (x : Syntax) (l : ℕ) (ws : List Word) → told (cond b at_end (Err (Illegal (length ws))) >>= λ e. Ok (x, l)) ≡ plain (cond b (Ok (x, ws)) (Err (Illegal (length ws))))
+finish_by : (b : Bool) (x : Syntax) (l : ℕ) (ws : List Word) → bare (cond b at_end (Err (Illegal (length ws))) >>= λ e. Ok (x, l)) ≡ plain (cond b (Ok (x, ws)) (Err (Illegal (length ws))))
 finish_by true x l ws = refl
 finish_by false x l ws = refl
 
-finish_alike : (x : Syntax) (l : ℕ) (ws : List Word) → told (ended ws >>= λ e. Ok (x, l)) ≡ plain (finish x ws)
+finish_alike : (x : Syntax) (l : ℕ) (ws : List Word) → bare (ended ws >>= λ e. Ok (x, l)) ≡ plain (finish x ws)
 unfolding ended finish
 finish_alike x l ws = finish_by (nat_eq (length ws) 0) x l ws
 
-whole_alike : (ws : List Word) → told (syntax_at ws) ≡ plain (whole ws)
+whole_alike : (ws : List Word) → bare (syntax_at ws) ≡ plain (whole ws)
 unfolding syntax_at whole seq
 whole_alike ws =
     let models = λ (v : ℕ). all_of starts_model (model_at v) in
     let rewards = λ (v : ℕ). all_of (next_keyword keyword.Reward) (reward_at v) in
     alike (head_at ws) _ _ (λ v. alike (models v.0 v.1) _ _ (λ m. system_alike m.1 _ _ (λ n l us. alike (rewards v.0 us) _ _ (λ r. finish_alike (made v.0 m.0 n r.0) l r.1))))
 
-told_err : (r : Result (Syntax × ℕ) Fault) (q : Result (Syntax × List Word) Fault) (f : Fault) → told r ≡ plain q → r ≡ Err f → q ≡ Err f
-told_err (Ok x) q f h e = absurd cc
-told_err (Err g) (Ok x) f h e = absurd cc
-told_err (Err g) (Err d) f h e = cc
+bare_err : (r : Result (Syntax × ℕ) Fault) (q : Result (Syntax × List Word) Fault) (f : Fault) → bare r ≡ plain q → r ≡ Err f → q ≡ Err f
+bare_err (Ok x) q f h e = absurd cc
+bare_err (Err g) (Ok x) f h e = absurd cc
+bare_err (Err g) (Err d) f h e = cc
 
-plain_err : (r : Result (Syntax × ℕ) Fault) (q : Result (Syntax × List Word) Fault) (f : Fault) → told r ≡ plain q → q ≡ Err f → r ≡ Err f
+plain_err : (r : Result (Syntax × ℕ) Fault) (q : Result (Syntax × List Word) Fault) (f : Fault) → bare r ≡ plain q → q ≡ Err f → r ≡ Err f
 plain_err r (Ok x) f h e = absurd cc
 plain_err (Ok x) (Err g) f h e = absurd cc
 plain_err (Err d) (Err g) f h e = cc
@@ -119,7 +119,7 @@ pub refused_too : (us : List Word) (w : Word) (rest other : List Word) (f : Faul
 refused_too us w rest other f e left =
     let front : List Word = us ++ w ∷ [] in
     let regroup = λ (vs : List Word). append_assoc us (w ∷ []) vs in
-    let was : whole (front ++ rest) ≡ Err f = told_err (syntax_at (front ++ rest)) (whole (front ++ rest)) f (whole_alike (front ++ rest)) (ap syntax_at (regroup rest) ∙ e) in
+    let was : whole (front ++ rest) ≡ Err f = bare_err (syntax_at (front ++ rest)) (whole (front ++ rest)) f (whole_alike (front ++ rest)) (ap syntax_at (regroup rest) ∙ e) in
     let t = whole_local.fails front rest other f was (omega (arith, left)) in
     let one : length (t.0 ++ other) ≡ suc (length other) = omega (arith, left, t.1, length-append t.0 rest, length-append t.0 other) in
     ap syntax_at (sym (regroup other))

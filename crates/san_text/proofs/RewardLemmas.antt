@@ -66,7 +66,7 @@ reward_begins : (d : RewardDecl) (after : List Word) → next_keyword keyword.Re
 unfolding is_next
 reward_begins d after = refl
 
-no_reward : next_keyword keyword.Reward [] ≡ false
+pub no_reward : next_keyword keyword.Reward [] ≡ false
 unfolding is_next
 no_reward = refl
 

@@ -55,7 +55,7 @@ starts_named (Fixed t ∷ ws) s e = absurd cc
 abbrev pub NoElse : List Word → Type 0
 NoElse ws = is_next (sign.Keyword keyword.Else) ws ≡ false
 
-empty_starts : starts_stmt [] ≡ true → ⊥
+pub empty_starts : starts_stmt [] ≡ true → ⊥
 unfolding starts_stmt name_of is_next
 empty_starts e = cc
 
@@ -196,7 +196,7 @@ stated version body law None ws p is e =
     let t = tested (is_next (sign.Keyword keyword.If) ws) (if_at version body (tail ws)) (Illegal (length ws)) p e in
     if_law version body law ws p (next_is (sign.Keyword keyword.If) ws t.0) t.1
 
-none_starts : starts_stmt [] ≡ false
+pub none_starts : starts_stmt [] ≡ false
 unfolding starts_stmt name_of is_next
 none_starts = refl
 

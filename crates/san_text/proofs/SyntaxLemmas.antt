@@ -19,7 +19,7 @@ use Rattle.san_text.proofs.AlikeLemmas.{Alike, alike_is, alike_then, alike_front
 use Rattle.san_text.proofs.StepLemmas.{seq, sign_then, done, Any, Kept, Law, law_of, signed, sign_again, sign_step, seq_step, done_step}
 use Rattle.san_text.proofs.BasicLemmas.{name_law, number_law, int_words, list_law, list_words}
 use Rattle.san_text.proofs.ModelLemmas.{model_items}
-use Rattle.san_text.proofs.RewardLemmas.{reward_items}
+use Rattle.san_text.proofs.RewardLemmas.{reward_items, no_reward}
 
 -- ---- head and end
 
@@ -90,10 +90,6 @@ ended_again = refl
 system_no_model : (s : List ℕ) (us : List Word) → starts_model (system_words s ++ us) ≡ false
 unfolding starts_model is_next
 system_no_model s us = refl
-
-no_reward : next_keyword keyword.Reward [] ≡ false
-unfolding is_next
-no_reward = refl
 
 -- ---- the whole
 

@@ -19,7 +19,7 @@ use Rattle.san_tree.specs.inner.Walks.{counted}
 abbrev pub IsCounted : List ℕ → List (List Instance) → Type 0
 IsCounted counts table = (k : ℕ) → slice_index counts k ≡ capped (length (slice_index_or table k []))
 
-length-below : (c : ℕ) (instances : List Instance) → length (below c instances) ≡ length instances
+pub length-below : (c : ℕ) (instances : List Instance) → length (below c instances) ≡ length instances
 length-below c instances = length-map instances _
 
 joined-counted : (counts : List ℕ) (table : List (List Instance)) → IsCounted counts table → (c : ℕ) (children : List (List ℕ × ℕ)) → capped (sum_by (λ child. slice_index counts child.1) children) ≡ capped (length (joined table c children))

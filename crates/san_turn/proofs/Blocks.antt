@@ -9,7 +9,7 @@ use Rattle.san_base.specs.declared.piece.Kind.TheVariants as kind
 use Rattle.san_law.specs.Net.{Net}
 use Rattle.san_law.specs.Order.{Order, flags_from, going_after}
 use Rattle.san_law.proofs.Flags.{length_flags}
-use Rattle.san_turn.specs.Changes.{OrderValue, flag_after, local_due, order_by, order_of_block, told}
+use Rattle.san_turn.specs.Changes.{OrderValue, flag_after, local_due, order_by, order_of_block, after_taking}
 use Rattle.san_turn.specs.declared.need.Taken.{Taken}
 use Rattle.san_turn.specs.inner.Ordered.{IsOrdered}
 use Rattle.san_turn.specs.inner.Timed.{TimersValue, with_due}
@@ -41,7 +41,7 @@ pub block_taken : (net : Net) (v : OrderValue) (j : ℕ) (t : Taken) (going : Op
     → us ≡ flags_from (flag_after net j (map (λ (x : PlaceId). x.0) ps) false) 0 v.order.unsettled → ps ≡ t.written.items
     → ss ≡ flags_from (flag_after net j (map (λ (x : PlaceId). x.0) qs) true) 0 v.order.stale → qs ≡ t.written.items
     → ts ≡ with_due (record { dues = v.order.dues; firsts = v.firsts }) j t.due
-    → built going us ss ts t.time.0 v.horizon ≡ told net v j t
+    → built going us ss ts t.time.0 v.horizon ≡ after_taking net v j t
 block_taken net v j t going us ss ts ps qs kinds goes u up s sp due =
     ap (λ (g : Option ℕ). built g us ss ts t.time.0 v.horizon) goes
     ∙ ap (λ (fs : List Bool). built (going_after j t.more) fs ss ts t.time.0 v.horizon) (u ∙ ap (flags_by net j false v.order.unsettled) up)

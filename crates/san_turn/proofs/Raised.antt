@@ -1,4 +1,5 @@
 -- The first flag that is up, and flags that go up.
+use Rattle.san_base.proofs.Bools.{or_right, or_assoc}
 use Rattle.std.proofs.Common.{ℕ, ◌<◌, ◌≤◌, ◌≡◌, ◌∙◌, ◌⊎◌, inl, inr, ap, sym, refl, List, [], ◌∷◌, length, Option, Some, None, Bool, true, false, arith, nat_eq, ◌||◌, slice_set}
 use Rattle.std.specs.List.{list_any}
 use Rattle.std.proofs.lemmas.Bool.{cases_eq, cases_lt}
@@ -49,14 +50,6 @@ pub length_raised_all : (parts : List Part) (places : List PlaceId) (fs : List B
 length_raised_all parts [] fs = refl
 length_raised_all parts (p ∷ ps) fs = length_raised_all parts ps (raised (importers_of parts p.0) fs) ∙ length_raised (importers_of parts p.0) fs
 
-or_true : (b : Bool) → (b || true) ≡ true
-or_true true = refl
-or_true false = refl
-
-or_assoc : (a b c : Bool) → ((a || b) || c) ≡ (a || (b || c))
-or_assoc true b c = refl
-or_assoc false b c = refl
-
 -- whether a leaf is one of some
 abbrev pub any_leaf : ℕ → List LeafId → Bool
 any_leaf i leaves = list_any (λ l. nat_eq i l.0) leaves
@@ -73,7 +66,7 @@ raised_at (l ∷ ls) fs i h =
     elim (cases_eq i l.0) [
       | inl e ↦ next
           ∙ ap (λ (b : Bool). b || any_leaf i ls) (set_same false fs l.0 i true e (omega (arith, h, e)))
-          ∙ sym (or_true (flag fs i))
+          ∙ sym (or_right (flag fs i))
           ∙ ap (λ (b : Bool). flag fs i || (b || any_leaf i ls)) (sym (ap (λ (n : ℕ). nat_eq n l.0) e ∙ eq_self l.0))
       | inr n ↦ next
           ∙ ap (λ (b : Bool). b || any_leaf i ls) (get_or-set_other fs l.0 i true false n)

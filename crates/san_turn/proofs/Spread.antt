@@ -1,4 +1,5 @@
 -- The flags after a block are the law's.
+use Rattle.san_base.proofs.Bools.{or_false, and_false}
 use Rattle.std.proofs.Common.{ℕ, zero, suc, ◌+◌, ◌<◌, ◌≡◌, ◌≢◌, ◌∙◌, inl, inr, ap, sym, refl, List, [], ◌∷◌, length, map, filter, Option, Some, None, Bool, true, false, arith, nat_eq, ◌||◌, ◌&&◌, cond, slice_set}
 use Rattle.std.specs.Prelude.{slice_get}
 use Rattle.std.specs.List.{list_any}
@@ -32,17 +33,9 @@ any_first : (a i q : ℕ) (r : Part) (rs : List Part) (b : Bool) → list_any (n
 any_first a i q r rs true e = ap (λ (b : Bool). any_leaf i (map (λ (x : Part). x.leaf) (cond b (r ∷ filter (λ x. list_any (nat_eq q) (places_of x)) rs) (filter (λ x. list_any (nat_eq q) (places_of x)) rs)))) e
 any_first a i q r rs false e = ap (λ (b : Bool). any_leaf i (map (λ (x : Part). x.leaf) (cond b (r ∷ filter (λ x. list_any (nat_eq q) (places_of x)) rs) (filter (λ x. list_any (nat_eq q) (places_of x)) rs)))) e
 
-and_false : (b : Bool) → (b && false) ≡ false
-and_false true = refl
-and_false false = refl
-
 and_true : (b : Bool) → (b && true) ≡ b
 and_true true = refl
 and_true false = refl
-
-or_false : (b : Bool) → (b || false) ≡ b
-or_false true = refl
-or_false false = refl
 
 -- no part has a lesser number
 none_before : (a i q : ℕ) (parts : List Part) → AreFrom a parts → i < a → any_leaf i (importers_of parts q) ≡ false

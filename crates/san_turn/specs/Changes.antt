@@ -1,4 +1,4 @@
--- The value of an order of needs, and what a taken piece changes of it, by what the order is told of the piece.
+-- The value of an order of needs, and what a taken piece changes of it, by what the order needs of the piece.
 use Rattle.std.specs.Prelude.{ℕ, ◌-◌, nat_eq, List, map, Option, Some, None, Bool, true, false, ◌||◌, slice_index, slice_set, if◌then◌else◌}
 use Rattle.san_base.specs.declared.numbers.ActId.{ActId}
 use Rattle.san_base.specs.declared.numbers.Tick.{Tick}
@@ -59,6 +59,6 @@ order_by net o j first t (kind.Fire act) = order_of_block net o t.time.0 j (map 
 abbrev pub order_taken : Net → Order → ℕ → ℕ → Taken → Order
 order_taken net o j first t = order_by net o j first t t.kind
 
--- an order that is told of a piece of a leaf
-abbrev pub told : Net → OrderValue → ℕ → Taken → OrderValue
-told net v j t = record { order = order_taken net v.order j (slice_index v.firsts j) t; firsts = v.firsts; horizon = v.horizon }
+-- an order that has taken a piece of a leaf
+abbrev pub after_taking : Net → OrderValue → ℕ → Taken → OrderValue
+after_taking net v j t = record { order = order_taken net v.order j (slice_index v.firsts j) t; firsts = v.firsts; horizon = v.horizon }

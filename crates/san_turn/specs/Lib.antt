@@ -1,4 +1,4 @@
 pub mod Needs
 pub mod Changes
-pub mod Told
+pub mod Reflected
 pub mod inner

@@ -1,4 +1,4 @@
-//! What an order of needs answers, and what it is told of a taken piece.
+//! What an order of needs answers, and what it needs of a taken piece.
 
 use san_base::{ActId, Kind, LeafId, PlaceId, Tick};
 

@@ -4,7 +4,7 @@ ghost use Rattle.std.specs.Prelude.{◌≡◌, ◌↔◌, ◌<◌, ℕ, All, IfO
 ghost use Rattle.san_law.specs.Network.{Limits};
 ghost use Rattle.san_law.specs.Order.{flag, going_after, need_of};
 ghost use Rattle.san_net.specs.Network.{net_of};
-ghost use Rattle.san_turn.specs.Changes.{opened, told};
+ghost use Rattle.san_turn.specs.Changes.{opened, after_taking};
 ghost use Rattle.san_turn.specs.Needs.{need_in};
 ghost use Rattle.std.specs.Option.{option_map};
 
@@ -135,7 +135,7 @@ impl Order {
         requires leaf { leaf.0 < length flat.now.parts }
         requires written { All (λ place. place.0 < length flat.now.initial) taken.now.written.items }
         ensures { (draw : ℕ → ℕ → ℕ) (limits : Limits)
-            → self.new ≡ told (net_of flat.now draw limits) self.old leaf.0 taken.now }
+            → self.new ≡ after_taking (net_of flat.now draw limits) self.old leaf.0 taken.now }
     {
         self.time = taken.time;
         self.timers.set(leaf, taken.due);

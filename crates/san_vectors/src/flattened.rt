@@ -27,54 +27,54 @@ const NETWORKS: [(&str, &str); 6] = [
     ("san 1; atomic x { place p = 7; } system x;", "x 0: 0\n7\n"),
 ];
 
-fn push_slot(alloc: Global, told: &mut Vec<u8>, slot: Slot) -> Result<(), Fail> {
+fn push_slot(alloc: Global, page: &mut Vec<u8>, slot: Slot) -> Result<(), Fail> {
     let text = match slot {
         Slot::Private(place) => format!(in alloc; " {}", place.0)?,
         Slot::Shared(place) => format!(in alloc; " ({})", place.0)?,
     };
-    told.extend_from_slice(text.as_bytes())?;
+    page.extend_from_slice(text.as_bytes())?;
     Ok(())
 }
 
-fn push_leaf(alloc: Global, told: &mut Vec<u8>, flat: &Flat, leaf: u32) -> Result<(), Fail> {
+fn push_leaf(alloc: Global, page: &mut Vec<u8>, flat: &Flat, leaf: u32) -> Result<(), Fail> {
     if leaf < flat.leaves() {
-        told.extend_from_slice(flat.path(LeafId(leaf)))?;
+        page.extend_from_slice(flat.path(LeafId(leaf)))?;
         let part = flat.part(LeafId(leaf)).get();
-        told.extend_from_slice(format!(in alloc; " {}:", part.first.0)?.as_bytes())?;
+        page.extend_from_slice(format!(in alloc; " {}:", part.first.0)?.as_bytes())?;
         for slot in part.slots.as_slice() {
-            push_slot(alloc, told, *slot)?;
+            push_slot(alloc, page, *slot)?;
         }
-        told.push(b'\n')?;
+        page.push(b'\n')?;
     }
     Ok(())
 }
 
-fn push_initial(alloc: Global, told: &mut Vec<u8>, flat: &Flat) -> Result<(), Fail> {
+fn push_initial(alloc: Global, page: &mut Vec<u8>, flat: &Flat) -> Result<(), Fail> {
     for place in 0..flat.places() {
         if place > 0 {
-            told.push(b' ')?;
+            page.push(b' ')?;
         }
         let value = flat.initial(PlaceId(place));
-        told.extend_from_slice(format!(in alloc; "{value}")?.as_bytes())?;
+        page.extend_from_slice(format!(in alloc; "{value}")?.as_bytes())?;
     }
-    told.push(b'\n')?;
+    page.push(b'\n')?;
     Ok(())
 }
 
-fn told(alloc: Global, flat: &Flat) -> Result<Vec<u8>, Fail> {
-    let mut told = Vec::new(alloc);
+fn page(alloc: Global, flat: &Flat) -> Result<Vec<u8>, Fail> {
+    let mut page = Vec::new(alloc);
     for leaf in 0..flat.leaves() {
-        push_leaf(alloc, &mut told, flat, leaf)?;
+        push_leaf(alloc, &mut page, flat, leaf)?;
     }
-    push_initial(alloc, &mut told, flat)?;
-    Ok(told)
+    push_initial(alloc, &mut page, flat)?;
+    Ok(page)
 }
 
 #[test]
 fn tells_the_networks(rt: HostRuntime) -> Result<(), Fail> {
     for (row, (text, want)) in NETWORKS.iter().enumerate() {
         let flat = network(rt.alloc(), *text).expect(&rt, "network");
-        let lines = told(rt.alloc(), &flat)?;
+        let lines = page(rt.alloc(), &flat)?;
         assert_eq!(rt; lines.as_slice(), want.as_bytes(), "row {row}");
     }
     Ok(())

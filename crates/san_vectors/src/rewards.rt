@@ -25,7 +25,7 @@ fn impulses_around_a_tick(rt: HostRuntime) -> Result<(), Fail> {
     Ok(())
 }
 
-/// Completions at 3, 6 and 9, told with the marking, the leaf's marking or the leaf's rates.
+/// Completions at 3, 6 and 9, shown with the marking, the leaf's marking or the leaf's rates.
 #[test]
 fn three_rewards(rt: HostRuntime) -> Result<(), Fail> {
     let flat = network(rt.alloc(), COUNTER).expect(&rt, "network");

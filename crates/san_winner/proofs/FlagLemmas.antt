@@ -4,6 +4,7 @@ use Rattle.std.specs.Prelude.{slice_get}
 use Rattle.std.proofs.lemmas.Bool.{ltb-true}
 use Rattle.std.proofs.lemmas.List.{length-map}
 use Rattle.san_base.proofs.Lists.{take_whole}
+use Rattle.san_winner.proofs.TreeLemmas.{length_drop}
 use Rattle.san_winner.specs.Least.{Won, sooner, least_from, least_between}
 use Rattle.san_winner.specs.Flags.{AreKeys, IsKey, SaysNext, is_up}
 
@@ -49,11 +50,6 @@ got_drop zero k xs = ap (slice_get (map is_up xs)) (omega arith)
 got_drop (suc n) k [] = refl
 got_drop (suc n) k (x ∷ xs) = let same : suc n + k ≡ suc (n + k) = omega arith in got_drop n k xs ∙ ap (slice_get (map is_up (x ∷ xs))) (sym same)
 
-long_drop : (from : ℕ) (xs : List (Option ℕ)) → length (drop from xs) ≡ length xs - from
-long_drop zero xs = omega arith
-long_drop (suc n) [] = omega arith
-long_drop (suc n) (x ∷ xs) = let rest = long_drop n xs in omega (arith, rest)
-
 abbrev pub as_next : Won → Option ℕ
 as_next None = None
 as_next (Some w) = Some w.1
@@ -61,11 +57,11 @@ as_next (Some w) = Some w.1
 next_by : (from : ℕ) (xs : List (Option ℕ)) (w : Won) → from ≤ length xs → Says from (drop from xs) w → SaysNext from (map is_up xs) (as_next w)
 next_by from xs None h says_none = λ i l u.
     let same : from + (i - from) ≡ i = omega (arith, l) in
-    let long = long_drop from xs in
+    let long = length_drop from xs in
     let many = length-map xs is_up in
     ap (slice_get (map is_up xs)) (sym same) ∙ sym (got_drop from (i - from) xs) ∙ says_none (i - from) (omega (arith, l, u, long, many))
 next_by from xs (Some w) h (j, at, key, within, up, below) =
-    let long = long_drop from xs in
+    let long = length_drop from xs in
     let many = length-map xs is_up in
     record {
       low = omega (arith, at);
@@ -78,7 +74,7 @@ next_by from xs (Some w) h (j, at, key, within, up, below) =
 
 pub says_next : (from : ℕ) (xs : List (Option ℕ)) (w : Won) → from ≤ length xs → AreKeys xs → w ≡ least_between from (length xs) xs → SaysNext from (map is_up xs) (as_next w)
 says_next from xs w h keys is =
-    let all : take (length xs - from) (drop from xs) ≡ drop from xs = take_whole (length xs - from) (drop from xs) (omega (arith, long_drop from xs)) in
+    let all : take (length xs - from) (drop from xs) ≡ drop from xs = take_whole (length xs - from) (drop from xs) (omega (arith, length_drop from xs)) in
     subst (λ (x : Won). SaysNext from (map is_up xs) (as_next x)) (sym (is ∙ ap (least_from from) all)) (next_by from xs (least_from from (drop from xs)) h (says from (drop from xs) (later from xs keys)))
 
 -- one flag anew

@@ -1,5 +1,6 @@
 -- The least of a list of keys, by key and then by index.
 use Rattle.std.specs.Prelude.{ℕ, zero, suc, ◌+◌, ◌-◌, ◌^◌, ◌≡◌, ◌<◌, ◌≤◌, ◌≢◌, nat_lt, List, [], ◌∷◌, Option, Some, None, if◌then◌else◌, slice_index_or, take, drop, length}
+use Rattle.san_winner.specs.declared.matches.TheConstants.{MAX_SIZE}
 
 -- a key and its index, or no key
 abbrev pub Won : Type 0
@@ -51,7 +52,7 @@ IsPower size = (h : ℕ) × (size ≡ 2 ^ h)
 -- a tree of so many lowest nodes over these keys
 pub record Stands (size : ℕ) (keys : List (Option ℕ)) (nodes : List Won) : Type 0 where
   pub power : IsPower size
-  pub small : size < 2 ^ 62
+  pub small : size < MAX_SIZE
   pub room : length keys ≤ size
   pub sized : length nodes ≡ size + size
   pub tree : IsTree size nodes

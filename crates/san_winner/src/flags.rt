@@ -1,6 +1,7 @@
 //! A set of numbers, as flags: the least one that is in it is found fast.
 
-ghost use Rattle.std.specs.Prelude.{◌≡◌, ◌<◌, ◌≤◌, ◌^◌, true, IfOk, length, replicate, slice_set};
+ghost use Rattle.std.specs.Prelude.{◌≡◌, ◌<◌, ◌≤◌, true, IfOk, length, replicate, slice_set};
+ghost use Rattle.san_winner.specs.declared.matches.TheConstants.{MAX_KEYS};
 ghost use Rattle.san_winner.specs.Flags.{IsKey, SaysNext, is_up};
 
 use crate::winners::Winners;
@@ -36,7 +37,7 @@ fn key_of(up: bool) -> Option<u64>
 impl Flags {
     /// `many` flags, all up.
     pub fn open(alloc: Global, many: usize) -> Result<Flags, NoMemory>
-        requires { many < 2 ^ 60 }
+        requires { many < MAX_KEYS }
         ensures { IfOk result (λ f. f ≡ replicate many true) }
     {
         let mut keys = Winners::open(alloc, many)?;

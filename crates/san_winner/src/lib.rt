@@ -7,5 +7,6 @@ mod matches;
 mod winners;
 
 pub use flags::Flags;
+pub use matches::MAX_KEYS;
 pub use san_base::NoMemory;
 pub use winners::Winners;

@@ -1,9 +1,16 @@
 //! The winner tree: keys, the matches between them, and their winners.
 
-ghost use Rattle.std.specs.Prelude.{◌≡◌, ℕ, ◌+◌, ◌-◌, ◌<◌, ◌≤◌, ◌^◌, ◌≢◌, length, IfOk, slice_index_or, replicate, None};
+ghost use Rattle.std.specs.Prelude.{◌≡◌, ℕ, ◌+◌, ◌-◌, ◌<◌, ◌≤◌, ◌≢◌, length, IfOk, slice_index_or, replicate, None};
+ghost use Rattle.san_winner.specs.declared.matches.TheConstants.{MAX_SIZE};
 ghost use Rattle.san_winner.specs.Least.{sooner, leaf, span, IsTree, IsTreeBut};
 
 use std::alloc::{AllocError, Global};
+
+/// More keys than a tree is opened for.
+pub const MAX_KEYS: usize = 1 << 60;
+
+/// A size beyond that of all trees.
+pub(crate) const MAX_SIZE: usize = 1 << 62;
 
 /// A key and its index, if there is one.
 pub(crate) type Won = Option<(u64, usize)>;
@@ -31,7 +38,7 @@ fn leaf(at: usize, key: Option<u64>) -> Won
 /// Plays the matches from a node to the root again.
 fn raise(nodes: &mut [Won], size: usize, first: usize)
     requires long { length nodes.old ≡ size + size }
-    requires small { size < 2 ^ 62 }
+    requires small { size < MAX_SIZE }
     requires first { first < size }
     requires tree { IsTreeBut first size nodes.old }
     ensures tree { IsTree size nodes.new }
@@ -47,7 +54,7 @@ fn raise(nodes: &mut [Won], size: usize, first: usize)
 /// The least of the nodes from a lowest node to another, matches above taken for those below.
 pub(crate) fn between(nodes: &[Won], size: usize, lo: usize, hi: usize) -> Won
     requires long { length nodes.now ≡ size + size }
-    requires small { size < 2 ^ 62 }
+    requires small { size < MAX_SIZE }
     requires some { 0 < size }
     requires lo { lo ≤ hi }
     requires hi { hi ≤ size }
@@ -76,7 +83,7 @@ pub(crate) fn between(nodes: &[Won], size: usize, lo: usize, hi: usize) -> Won
 /// A lowest node set, and the matches above it played again.
 pub(crate) fn put(nodes: &mut [Won], size: usize, at: usize, key: Option<u64>)
     requires long { length nodes.old ≡ size + size }
-    requires small { size < 2 ^ 62 }
+    requires small { size < MAX_SIZE }
     requires at { at < size }
     requires tree { IsTree size nodes.old }
     ensures tree { IsTree size nodes.new }

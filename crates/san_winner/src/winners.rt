@@ -1,6 +1,7 @@
 //! A fixed number of keys with the least of them at hand.
 
-ghost use Rattle.std.specs.Prelude.{◌≡◌, ◌<◌, ◌≤◌, ◌^◌, length, IfOk, slice_index_or, slice_set, replicate, None};
+ghost use Rattle.std.specs.Prelude.{◌≡◌, ◌<◌, ◌≤◌, length, IfOk, slice_index_or, slice_set, replicate, None};
+ghost use Rattle.san_winner.specs.declared.matches.TheConstants.{MAX_KEYS};
 ghost use Rattle.san_winner.specs.Least.{least_from, least_between};
 
 use crate::matches::{Won, between, key_at, no_keys, no_winners, put, root};
@@ -72,7 +73,7 @@ impl Winners {
 
     /// `count` indices without keys.
     pub fn open(alloc: Global, count: usize) -> Result<Winners, NoMemory>
-        requires count { count < 2 ^ 60 }
+        requires count { count < MAX_KEYS }
         ensures { IfOk result (λ s. s ≡ replicate count None) }
     {
         let mut size = 1;

@@ -60,6 +60,6 @@ with_default (Some text) rule = record rule { defaults = text ∷ [] }
 abbrev pub rule_by : Row → Rule
 rule_by row = with_default (option_map decimal row.default) (record (new_rule row.name) { long = Some row.name; action = Some action.Set; parser = Some (parser_of row.range) })
 
--- what clap is told of an option
+-- what clap is given of an option
 abbrev pub number_rule : NumberOption → Rule
 number_rule option = rule_by (row_of option)

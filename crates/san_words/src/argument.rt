@@ -1,4 +1,4 @@
-//! An option as clap is told of it.
+//! An option as clap is given it.
 
 ghost use Rattle.std.specs.Prelude.{◌≡◌, false};
 ghost use Rattle.clap.specs.Words.{rule_of};

@@ -1,4 +1,4 @@
-//! The commands of the programs, as clap is told of them.
+//! The commands of the programs, as clap is given them.
 
 ghost use Rattle.std.specs.Prelude.{◌≡◌, IfOk};
 ghost use Rattle.clap.specs.Words.{app_of};

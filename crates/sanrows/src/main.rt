@@ -35,7 +35,7 @@ impl Count {
 }
 
 /// Runs a row and tells of it; whether it came true.
-fn tell(rt: &HostRuntime, alloc: Global, piece: &str) -> io::Result<bool> {
+fn say(rt: &HostRuntime, alloc: Global, piece: &str) -> io::Result<bool> {
     let Some(row) = Row::read(piece) else {
         let name = piece.lines().next().unwrap_or("");
         println!(rt; "row {name} can't be read")?;
@@ -59,7 +59,7 @@ fn tell(rt: &HostRuntime, alloc: Global, piece: &str) -> io::Result<bool> {
 }
 
 /// Tells of all rows of the folder.
-fn tell_all(rt: &HostRuntime) -> io::Result<Count> {
+fn say_all(rt: &HostRuntime) -> io::Result<Count> {
     let alloc: Global = rt.alloc();
     let mut count = Count { rows: 0, failed: 0 };
     let folder = match env::args(rt)?.nth(1) {
@@ -69,7 +69,7 @@ fn tell_all(rt: &HostRuntime) -> io::Result<Count> {
     for file in files(rt, alloc, folder.as_str())?.iter() {
         let file = fs::read_to_string(rt, file.as_str())?;
         for piece in file.split(MARK).skip(1) {
-            let came_true = tell(rt, alloc, piece)?;
+            let came_true = say(rt, alloc, piece)?;
             count = count.and(came_true);
         }
     }
@@ -78,7 +78,7 @@ fn tell_all(rt: &HostRuntime) -> io::Result<Count> {
 }
 
 fn main(rt: HostRuntime) -> ExitCode {
-    match tell_all(&rt) {
+    match say_all(&rt) {
         Ok(Count { rows, failed: 0 }) => {
             if rows > 0 {
                 ExitCode::SUCCESS

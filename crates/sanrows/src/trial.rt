@@ -7,7 +7,7 @@ use crate::setting::{are_known, numbers};
 use san_base::NoMemory;
 use std::alloc::Global;
 
-/// The room of a sink whose output is told by its end alone, in bytes.
+/// The room of a sink whose output is shown by its end alone, in bytes.
 const LONG_OUTPUT: usize = 1_048_576;
 
 /// What of a row doesn't come true.
@@ -24,7 +24,7 @@ pub(crate) enum Fault {
 }
 
 impl Fault {
-    /// What is told of a row behind its name.
+    /// What is said of a row behind its name.
     pub(crate) fn text(self) -> &'static str {
         match self {
             Fault::Settings => "has a setting that can't be read",

@@ -6,7 +6,7 @@ use Rattle.san_text.specs.declared.syntax.Syntax.{Syntax}
 use Rattle.san_tree.specs.declared.node.Node.{Node}
 use Rattle.san_net.specs.declared.atomic.Atomic.{Atomic}
 use Rattle.san_net.specs.declared.part.Reward.{Reward}
-use Rattle.san_check.specs.declared.limits.TheConstants.{MAX_OWN_ACTS}
+use Rattle.san_net.specs.declared.atomic.TheConstants.{MAX_ATOMIC_ACTS}
 use Rattle.san_check.specs.Checked.{IsRead}
 use Rattle.san_check.specs.walk.Model.{syntax_fault}
 use Rattle.san_check.specs.build.Composition.{nodes_of, root_of}
@@ -28,6 +28,6 @@ pub record IsModel (system : List ℕ) (atomics : List Atomic) (nodes : List Nod
 
 -- an atomic has few activities
 abbrev pub HasFewActs : ModelDecl → Type 0
-HasFewActs (model.Atomic name places acts) = length acts ≤ MAX_OWN_ACTS
+HasFewActs (model.Atomic name places acts) = length acts ≤ MAX_ATOMIC_ACTS
 HasFewActs (model.Join name children shares) = Unit {0}
 HasFewActs (model.Rep name of times shares) = Unit {0}

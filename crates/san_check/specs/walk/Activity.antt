@@ -13,8 +13,9 @@ use Rattle.san_text.specs.declared.syntax.CaseDecl.{CaseDecl}
 use Rattle.san_text.specs.declared.syntax.DistDecl.{DistDecl}
 use Rattle.san_text.specs.declared.syntax.DistDecl.TheVariants as dist
 use Rattle.san_check.specs.declared.codes.TheConstants.{NAME_TAKEN, ARC_WEIGHT, GEOMETRIC_CHANCE, TABLE_DELAY, WEIGHTS_TOO_LARGE, WEIGHTS_ARE_ZERO, TOO_MANY_ACTS, TOO_MANY_ENTRIES, PRIORITY_TOO_LARGE}
-use Rattle.san_check.specs.declared.limits.TheConstants.{MAX_OWN_ACTS, MAX_ENTRIES, MAX_GEOMETRIC, MAX_PRIORITY}
-use Rattle.san_base.specs.declared.limits.TheConstants.{MAX_TOKENS, MAX_DELAY, MAX_WEIGHT}
+use Rattle.san_check.specs.declared.limits.TheConstants.{MAX_ENTRIES, MAX_GEOMETRIC}
+use Rattle.san_net.specs.declared.atomic.TheConstants.{MAX_ATOMIC_ACTS}
+use Rattle.san_base.specs.declared.limits.TheConstants.{MAX_DELAY, MAX_PRIORITY, MAX_TOKENS, MAX_WEIGHT}
 use Rattle.san_check.specs.Tables.{Table, is_known}
 use Rattle.san_check.specs.walk.Entries.{Entries, code, ◌else◌, joined}
 use Rattle.san_check.specs.walk.Expression.{Places, whole, expr_entries, stmts_entries}
@@ -97,7 +98,7 @@ Acts = Table (Unit {0})
 
 -- the name of an activity behind n others
 unfoldable pub act_code : Places → Acts → ℕ → List ℕ → Option ℕ
-act_code places acts n name = code NAME_TAKEN (is_known places name || is_known acts name) else code TOO_MANY_ACTS (nat_le MAX_OWN_ACTS n)
+act_code places acts n name = code NAME_TAKEN (is_known places name || is_known acts name) else code TOO_MANY_ACTS (nat_le MAX_ATOMIC_ACTS n)
 
 -- an activity behind its name
 unfoldable pub act_entries : Places → ActDecl → Entries

@@ -28,5 +28,5 @@ first_fault word (None ∷ entries) = first_fault (suc word) entries
 first_fault word (Some number ∷ entries) = Some (record { code = number; word = word })
 
 -- a word's number counts up to the greatest one, which no text that is read comes near
-abbrev pub told : Fault → Fault
-told fault = record { code = fault.code; word = min fault.word MAX_COUNT }
+abbrev pub reported : Fault → Fault
+reported fault = record { code = fault.code; word = min fault.word MAX_COUNT }

@@ -6,7 +6,9 @@ use Rattle.san_text.specs.declared.syntax.SpanDecl.TheVariants as span
 use Rattle.san_text.specs.declared.syntax.TermDecl.{TermDecl}
 use Rattle.san_text.specs.declared.syntax.TermDecl.TheVariants as term
 use Rattle.san_check.specs.declared.codes.TheConstants.{NAME_TAKEN, NO_ATOMIC, UNKNOWN_ACTIVITY, INTERVAL, IMPULSE_AT_A_TICK, TOO_MANY_REWARDS, TOO_MANY_TERMS}
-use Rattle.san_check.specs.declared.limits.TheConstants.{MAX_REWARDS, MAX_TERMS, MAX_END}
+use Rattle.san_check.specs.declared.limits.TheConstants.{MAX_END}
+use Rattle.san_net.specs.declared.atomic.TheConstants.{MAX_TERMS}
+use Rattle.san_net.specs.declared.part.TheConstants.{MAX_REWARDS}
 use Rattle.san_base.specs.declared.limits.TheConstants.{MAX_HORIZON}
 use Rattle.san_check.specs.Tables.{is_known, declared}
 use Rattle.san_check.specs.walk.Entries.{Entries, code, ◌else◌}

@@ -1,7 +1,7 @@
 //! Atomics with their terms of the rewards.
 
 ghost use Rattle.std.specs.Prelude.{◌≡◌, ◌≤◌, ◌++◌, [], length, IfOk, OnOk, All, None};
-ghost use Rattle.san_check.specs.declared.limits.TheConstants.{MAX_OWN_ACTS};
+ghost use Rattle.san_net.specs.declared.atomic.TheConstants.{MAX_ATOMIC_ACTS};
 ghost use Rattle.san_check.specs.walk.Atomic.{all_acts};
 ghost use Rattle.san_check.specs.walk.Model.{syntax_fault};
 ghost use Rattle.san_check.specs.build.Atomic.{atomic_over, atomic_of, atomic_in, atomics_from, atomics_of};
@@ -36,7 +36,7 @@ fn atomic_over<'a>(
     decls: &'a [ActDecl],
     rewards: &'a [RewardDecl],
 ) -> Result<Atomic, NoMemory>
-    requires { length decls.now ≤ MAX_OWN_ACTS }
+    requires { length decls.now ≤ MAX_ATOMIC_ACTS }
     ensures { IfOk result (λ a. a
         ≡ atomic_over cells.now name.now places.now decls.now rewards.now) }
 {
@@ -60,7 +60,7 @@ fn atomic_of<'a>(
     acts: &'a [ActDecl],
     rewards: &'a [RewardDecl],
 ) -> Result<Atomic, NoMemory>
-    requires { length acts.now ≤ MAX_OWN_ACTS }
+    requires { length acts.now ≤ MAX_ATOMIC_ACTS }
     ensures { IfOk result (λ a. a ≡ atomic_of name.now places.now acts.now rewards.now) }
 {
     let cells = all_cells(alloc, places)?;

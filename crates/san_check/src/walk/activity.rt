@@ -9,12 +9,13 @@ use crate::codes::{
     ARC_WEIGHT, GEOMETRIC_CHANCE, NAME_TAKEN, PRIORITY_TOO_LARGE, TABLE_DELAY, TOO_MANY_ACTS,
     TOO_MANY_ENTRIES, WEIGHTS_ARE_ZERO, WEIGHTS_TOO_LARGE,
 };
-use crate::limits::{MAX_ENTRIES, MAX_GEOMETRIC, MAX_OWN_ACTS, MAX_PRIORITY};
+use crate::limits::{MAX_ENTRIES, MAX_GEOMETRIC};
 use crate::place::Place;
 use crate::table::Table;
 use crate::walk::expression::{walk_expr, walk_stmts, whole};
 use crate::walk::{Walk, code};
-use san_base::{MAX_DELAY, MAX_TOKENS, MAX_WEIGHT, Name};
+use san_base::{MAX_DELAY, MAX_PRIORITY, MAX_TOKENS, MAX_WEIGHT, Name};
+use san_net::MAX_ATOMIC_ACTS;
 use san_text::{ActDecl, Ast, CaseDecl, Cases, DistDecl, InputDecl, OutputDecl, Timing};
 
 pub(crate) fn is_outside(n: u64, least: u64, most: u64) -> bool
@@ -211,7 +212,7 @@ pub(crate) fn act_code<'a>(
     let name = name.as_bytes();
     code(NAME_TAKEN, places.is_known(name) || acts.is_known(name)).or(code(
         TOO_MANY_ACTS,
-        n >= MAX_OWN_ACTS,
+        n >= MAX_ATOMIC_ACTS,
     ))
 }
 

@@ -4,7 +4,7 @@ ghost use Rattle.std.specs.Prelude.{◌≡◌, [], IfOk, OnOk, ◌++◌, ◌∷�
 ghost use Rattle.std.specs.Option.{option_map};
 ghost use Rattle.san_check.specs.declared.codes.TheConstants.{COPIES};
 ghost use Rattle.san_check.specs.declared.limits.TheConstants.{MAX_COPIES};
-ghost use Rattle.san_check.specs.walk.Entries.{told, code};
+ghost use Rattle.san_check.specs.walk.Entries.{reported, code};
 ghost use Rattle.san_check.specs.inner.Walks.{seen_all};
 ghost use Rattle.san_check.specs.walk.Activity.{is_outside};
 ghost use Rattle.san_check.specs.walk.Atomic.{places_entries, all_places, acts_entries, all_acts};
@@ -201,7 +201,7 @@ pub(crate) fn walked<'a>(
     alloc: Global,
     syntax: &'a Syntax,
 ) -> Result<(Option<Fault>, Table<'a, Known<'a>>), NoMemory>
-    ensures fault { IfOk result (λ r. r.0 ≡ option_map told (syntax_fault syntax.now)) }
+    ensures fault { IfOk result (λ r. r.0 ≡ option_map reported (syntax_fault syntax.now)) }
     ensures models { IfOk result (λ r. r.1 ≡ all_models [] syntax.now.models) }
 {
     let mut walk = Walk::new();

@@ -10,12 +10,13 @@ use crate::codes::{
     UNKNOWN_ACTIVITY,
 };
 use crate::known::{Known, known_as};
-use crate::limits::{MAX_END, MAX_REWARDS, MAX_TERMS};
+use crate::limits::MAX_END;
 use crate::place::Place;
 use crate::table::Table;
 use crate::walk::expression::{walk_expr, walk_first};
 use crate::walk::{Walk, code};
 use san_base::{MAX_HORIZON, Name, NoMemory};
+use san_net::{MAX_REWARDS, MAX_TERMS};
 use san_text::{RewardDecl, SpanDecl, TermDecl};
 use std::alloc::Global;
 

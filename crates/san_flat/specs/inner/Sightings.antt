@@ -7,12 +7,12 @@ use Rattle.san_flat.specs.Networks.{value_at, values_in}
 use Rattle.san_flat.specs.declared.numbers.Numbers.{Numbers}
 use Rattle.san_flat.specs.declared.seen.Seen.{Seen}
 use Rattle.std.specs.List.{list_any}
-use Rattle.san_net.specs.Numbering.{IsTold, firsts, number, repeated}
+use Rattle.san_net.specs.Numbering.{AreRecorded, firsts, number, repeated}
 use Rattle.san_tree.specs.declared.instance.Instance.{Instance}
 
 -- the different homes in order, how often each was seen, and the initial value of the first cell there
 pub record IsSeen (homes : List CellHome) (initial : List ℕ) (s : Seen) : Type 0 where
-  pub told : IsTold same homes (map home_of_key s.homes.keys) s.counts.items
+  pub recorded : AreRecorded same homes (map home_of_key s.homes.keys) s.counts.items
   pub values : s.values.items ≡ map (value_at homes initial) (map home_of_key s.homes.keys)
   pub even : length homes ≡ length initial
 

@@ -2,7 +2,8 @@
 use Rattle.std.specs.Prelude.{ℕ, suc, ◌≡◌, List, [], ◌∷◌}
 use Rattle.san_lex.specs.declared.piece.Piece.{Piece}
 use Rattle.san_lex.specs.declared.piece.Piece.TheVariants as piece
-use Rattle.san_lex.specs.Bytes.{run, is_in_name, is_digit}
+use Rattle.san_base.specs.Names.{is_in_name, is_digit}
+use Rattle.san_lex.specs.Bytes.{run}
 use Rattle.san_lex.specs.Lexer.{Front, Gap, Broken, Bad, Large, Long, named, numbered, front}
 use Rattle.san_lex.specs.Lexer as lexer
 use Rattle.san_lex.specs.Pieces.{kind_word}

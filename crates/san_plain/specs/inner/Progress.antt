@@ -20,7 +20,7 @@ use Rattle.san_plain.specs.declared.counted.CountedRun.{CountedRun}
 use Rattle.san_plain.specs.declared.run.RunInProgress.{RunInProgress}
 use Rattle.san_plain.specs.declared.run.Unwritten.{Unwritten}
 use Rattle.san_seq.specs.FlatRun.{On, Run, opening, steps_left}
-use Rattle.san_seq.specs.Telling.{ending_in, event_in}
+use Rattle.san_seq.specs.Outcomes.{ending_in, event_in}
 
 -- the run that it was opened for
 abbrev pub opened_by : CountedRun → Opened
@@ -44,7 +44,7 @@ pub record HasCounted (o : Opened) (es : List law.Event) (s : State) (a : Reward
 
 -- a run that goes on from a state
 abbrev pub run_at : Opened → State → Run
-run_at o s = record { network = o.network; seed = o.seed; limits = o.limits; going = On s }
+run_at o s = record { network = o.network; seed = o.seed; limits = o.limits; run_phase = On s }
 
 -- a run stands for a state that the law's run comes to by these events
 pub record Stands (o : Opened) (es : List law.Event) (s : State) (c : CountedRun) : Type 0 where

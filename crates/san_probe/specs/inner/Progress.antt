@@ -17,7 +17,7 @@ abbrev pub net_by : Network → ℕ → Limits → Net
 net_by n seed limits = net_of n (draw_of seed) (limits_in limits)
 
 abbrev pub run_at : Network → ℕ → Limits → State → Run
-run_at n seed limits s = record { network = n; seed = seed; limits = limits; going = On s }
+run_at n seed limits s = record { network = n; seed = seed; limits = limits; run_phase = On s }
 
 -- after these events it is at this state, at this time
 pub record Stands (n : Network) (seed : ℕ) (limits : Limits) (es : List law.Event) (s : State) (r : Run) (now : ℕ) : Type 0 where

@@ -8,7 +8,7 @@ use Rattle.san_law.specs.State.{State}
 use Rattle.san_law.specs.Step as law
 use Rattle.san_net.specs.Network.{Network}
 use Rattle.san_seq.specs.inner.Rows.{AreDrawn, AreRows, row_at}
-use Rattle.san_seq.specs.Telling.{told_of}
+use Rattle.san_seq.specs.Outcomes.{event_or_ending}
 
 -- no case draw's number is greater
 abbrev pub AreCounted : ℕ → List Row → Type 0
@@ -34,8 +34,8 @@ IsRunning n limits s = IsDrawn n limits s.count s
 abbrev pub with_rows : List Row → State → State
 with_rows rows s = record { time = s.time; marking = s.marking; stable = s.stable; rows = rows; burst = s.burst; last = s.last; count = s.count }
 
--- what is told and left is that of the law; of a run that is over the marking is left
+-- what is answered and left is that of the law; of a run that is over the marking is left
 pub record Steps (n : Network) (now : Result Event Ending) (left : State) (is : law.Stepped × State) : Type 0 where
-  pub told : now ≡ told_of n is.0
+  pub answered : now ≡ event_or_ending n is.0
   pub leaves : IfOk now (λ e. left ≡ is.1)
   pub marking : left.marking ≡ is.1.marking

@@ -3,7 +3,7 @@ use Rattle.std.proofs.lemmas.Option.{get_or_from_slice_get}
 use Rattle.san_base.specs.declared.ending.Trap.{Trap}
 use Rattle.san_draw.specs.Key.{draw_of}
 use Rattle.san_expr.specs.Meets.{Meets}
-use Rattle.san_expr.specs.View.{Sight}
+use Rattle.san_expr.specs.View.{ViewState}
 use Rattle.san_net.specs.Below.{activity_below}
 use Rattle.san_net.specs.Completion.{completion_of}
 use Rattle.san_net.specs.Instants.{Named}
@@ -20,7 +20,7 @@ complete-case-requires-clause-places g c =
     subst (λ (n : ℕ). IsTrue (activity_below (slice_index_or c.as_slice-acts.result.now k d).1 n)) (sym c.requires.cells)
     (subst (λ (xs : List Named). IsTrue (activity_below (slice_index_or xs k d).1 (length atomic.initial))) (sym acts) below)
 
-meant : (s t : Sight) (u v : ℕ) (x a : Named) (r : Result ℕ Trap) → u ≡ v → x ≡ a → Meets s t (completion_of u x.1) r → Meets s t (completion_of v a.1) r
+meant : (s t : ViewState) (u v : ℕ) (x a : Named) (r : Result ℕ Trap) → u ≡ v → x ≡ a → Meets s t (completion_of u x.1) r → Meets s t (completion_of v a.1) r
 meant s t u v x a r drawn act did =
     subst (λ (n : ℕ). Meets s t (completion_of n a.1) r) drawn (subst (λ (y : Named). Meets s t (completion_of u y.1) r) act did)
 
@@ -28,7 +28,7 @@ pub returns-then-is_ok-clause-done : goal.returns-then-is_ok-clause-done
 returns-then-is_ok-clause-done g c = λ a is.
     let atomic = c.args.part.now.atomic in
     let acts = c.as_slice-acts.ensures ∙ ap (λ (b : Atomic). b.acts) c.get.ensures in
-    meant (g.V.Marked.sight c.args.view.now) (g.V.Marked.sight c.complete-case.new.view) c.draw-u.result _ (slice_index_or c.as_slice-acts.result.now c.args.act c.index-acts-act.result) a c.complete-case.result
+    meant (g.V.Marked.view_state c.args.view.now) (g.V.Marked.view_state c.complete-case.new.view) c.draw-u.result _ (slice_index_or c.as_slice-acts.result.now c.args.act c.index-acts-act.result) a c.complete-case.result
     (c.draw-u.ensures.value ∙ ap (draw_of (g.D.DrawSource.seed c.args.draws.now) (2 * (c.args.part.now.first.0 + c.args.act) + 1)) c.next_case.ensures)
     (ap (λ (xs : List Named). slice_index_or xs c.args.act c.index-acts-act.result) acts ∙ get_or_from_slice_get atomic.acts c.args.act a c.index-acts-act.result is)
     c.complete-case.ensures
@@ -37,7 +37,7 @@ pub returns-else-is_ok-clause-done : goal.returns-else-is_ok-clause-done
 returns-else-is_ok-clause-done g c = λ a is.
     let atomic = c.args.part.now.atomic in
     let acts = c.as_slice-acts.ensures ∙ ap (λ (b : Atomic). b.acts) c.get.ensures in
-    meant (g.V.Marked.sight c.args.view.now) (g.V.Marked.sight c.complete-case.new.view) c.draw-u.result _ (slice_index_or c.as_slice-acts.result.now c.args.act c.index-acts-act.result) a c.complete-case.result
+    meant (g.V.Marked.view_state c.args.view.now) (g.V.Marked.view_state c.complete-case.new.view) c.draw-u.result _ (slice_index_or c.as_slice-acts.result.now c.args.act c.index-acts-act.result) a c.complete-case.result
     (c.draw-u.ensures.value ∙ ap (draw_of (g.D.DrawSource.seed c.args.draws.now) (2 * (c.args.part.now.first.0 + c.args.act) + 1)) c.next_case.ensures)
     (ap (λ (xs : List Named). slice_index_or xs c.args.act c.index-acts-act.result) acts ∙ get_or_from_slice_get atomic.acts c.args.act a c.index-acts-act.result is)
     c.complete-case.ensures

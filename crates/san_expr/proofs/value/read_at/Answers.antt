@@ -8,8 +8,8 @@ use Rattle.san_expr.proofs.value.read_at.Goals as goal
 
 pub returns : goal.returns
 returns g c =
-    let s0 = g.V.Marked.sight c.args.view.now in
-    let s1 = g.V.Marked.sight c.read.new.self in
+    let s0 = g.V.Marked.view_state c.args.view.now in
+    let s1 = g.V.Marked.view_state c.read.new.self in
     let cell = cell_of c.args.first c.args.length in
     let fits : SFits w64 c.from.result = search rules in
     let index_fits : SFits w64 c.args.index = search rules in

@@ -1,7 +1,7 @@
 use Rattle.std.proofs.Common.{◌≡◌, ◌∙◌, sym, subst}
 use Rattle.std.specs.Prelude.{IfOk}
 use Rattle.san_flat.proofs.AssembledLemmas.{all_among, network-is}
-use Rattle.san_flat.proofs.SightLemmas.{counts_even, counts_few, few-places}
+use Rattle.san_flat.proofs.SightingLemmas.{counts_even, counts_few, few-places}
 use Rattle.san_flat.specs.inner.Models.{homes_of, values_of}
 use Rattle.san_net.specs.Laid.{IsNetwork}
 use Rattle.san_flat.proofs.network.assembled.Goals as goal

@@ -1,5 +1,5 @@
 use Rattle.std.proofs.Common.{◌≡◌, true, get_or, sym, ◌∙◌, arith, add-one}
-use Rattle.san_lex.specs.Bytes.{is_digit}
+use Rattle.san_base.specs.Names.{is_digit}
 use Rattle.san_lex.proofs.RunLemmas.{run_goes}
 use Rattle.san_lex.proofs.byte.digits_length.Goals as goal
 

@@ -1,6 +1,7 @@
 use Rattle.std.proofs.Common.{◌≡◌, ◌+◌, ◌-◌, ◌≤◌, length, drop}
 use Rattle.san_lex.proofs.byte.name_length.Given as goal
-use Rattle.san_lex.specs.Bytes.{run, is_in_name}
+use Rattle.san_base.specs.Names.{is_in_name}
+use Rattle.san_lex.specs.Bytes.{run}
 
 abbrev pub invariant-next : goal.invariant-next
 invariant-next l = (l.n ≤ length l.bytes) × (l.n + length (run is_in_name (drop l.n l.bytes)) ≡ length (run is_in_name l.bytes))

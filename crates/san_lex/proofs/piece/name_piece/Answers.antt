@@ -1,5 +1,5 @@
 use Rattle.std.proofs.Common.{sym, ap, ◌∙◌, arith}
-use Rattle.san_lex.specs.Bytes.{is_in_name}
+use Rattle.san_base.specs.Names.{is_in_name}
 use Rattle.san_lex.specs.Keywords.{keyword_of}
 use Rattle.san_lex.proofs.PieceLemmas.{run_rest, name_is, keyword_is}
 use Rattle.san_lex.proofs.piece.name_piece.Goals as goal

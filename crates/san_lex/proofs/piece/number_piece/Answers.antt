@@ -1,7 +1,6 @@
 use Rattle.std.proofs.Common.{◌<◌, ap, subst, ◌∙◌, arith, List, ℕ}
 use Rattle.std.specs.Str.Parse.{digits_value}
-use Rattle.san_lex.specs.Bytes.{is_digit}
-use Rattle.san_lex.specs.Bytes.{each}
+use Rattle.san_base.specs.Names.{is_digit, each}
 use Rattle.san_lex.specs.declared.byte.TheConstants.{MAX_NUMBER}
 use Rattle.san_lex.proofs.PieceLemmas.{run_rest, number_each, number_small, number_large}
 use Rattle.san_lex.proofs.piece.number_piece.Goals as goal

@@ -5,9 +5,9 @@ use Rattle.san_net.proofs.choice.find.Given as goal
 
 abbrev pub invariant-loop-at : goal.invariant-loop-at
 invariant-loop-at g l =
-    let was = g.V.Marked.sight l.fn.view in
+    let was = g.V.Marked.view_state l.fn.view in
     record {
-      finds : Finds was (g.V.Marked.sight l.view) l.cases l.picked l.left l.at (drop l.at l.cases);
-      places : (g.V.Marked.sight l.view).places ≡ was.places;
+      finds : Finds was (g.V.Marked.view_state l.view) l.cases l.picked l.left l.at (drop l.at l.cases);
+      places : (g.V.Marked.view_state l.view).places ≡ was.places;
       below : IsTrue (cases_below (drop l.at l.cases) was.places);
     }

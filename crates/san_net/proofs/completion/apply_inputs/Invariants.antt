@@ -6,9 +6,9 @@ use Rattle.san_net.proofs.completion.apply_inputs.Given as goal
 
 abbrev pub invariant-loop-input : goal.invariant-loop-input
 invariant-loop-input g l =
-    let was = g.V.Marked.sight l.fn.view in
+    let was = g.V.Marked.view_state l.fn.view in
     record {
-      stands : Stands function_of was (g.V.Marked.sight l.view) l.inputs (drop l.input-index l.inputs);
-      places : (g.V.Marked.sight l.view).places ≡ was.places;
+      stands : Stands function_of was (g.V.Marked.view_state l.view) l.inputs (drop l.input-index l.inputs);
+      places : (g.V.Marked.view_state l.view).places ≡ was.places;
       below : IsTrue (inputs_below (drop l.input-index l.inputs) was.places);
     }

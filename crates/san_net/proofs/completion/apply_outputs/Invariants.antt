@@ -6,9 +6,9 @@ use Rattle.san_net.proofs.completion.apply_outputs.Given as goal
 
 abbrev pub invariant-loop-output : goal.invariant-loop-output
 invariant-loop-output g l =
-    let was = g.V.Marked.sight l.fn.view in
+    let was = g.V.Marked.view_state l.fn.view in
     record {
-      stands : Stands output_of was (g.V.Marked.sight l.view) l.outputs (drop l.output-index l.outputs);
-      places : (g.V.Marked.sight l.view).places ≡ was.places;
+      stands : Stands output_of was (g.V.Marked.view_state l.view) l.outputs (drop l.output-index l.outputs);
+      places : (g.V.Marked.view_state l.view).places ≡ was.places;
       below : IsTrue (outputs_below (drop l.output-index l.outputs) was.places);
     }

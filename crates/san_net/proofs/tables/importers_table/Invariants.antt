@@ -7,5 +7,5 @@ abbrev pub invariant-parts : goal.invariant-parts
 invariant-parts l =
     record {
       sized : length l.table.items ≡ l.places;
-      told : (q : ℕ) → slice_index_or (map (λ x. x.items) l.table.items) q [] ≡ importers_of (take l.part-index l.parts) q;
+      by_place : (q : ℕ) → slice_index_or (map (λ x. x.items) l.table.items) q [] ≡ importers_of (take l.part-index l.parts) q;
     }

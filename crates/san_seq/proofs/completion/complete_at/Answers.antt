@@ -1,7 +1,7 @@
 use Rattle.std.proofs.Common.{arith, ◌∙◌, sym, ap, Some}
 use Rattle.san_draw.specs.Key.{draw_of}
 use Rattle.san_net.specs.declared.part.Part.{Part}
-use Rattle.san_seq.proofs.LeafCompletionLemmas.{told_there}
+use Rattle.san_seq.proofs.LeafCompletionLemmas.{done_there}
 use Rattle.san_net.proofs.PartLemmas.{lies_over}
 use Rattle.san_net.proofs.FlatLemmas.{acts_within}
 use Rattle.san_seq.proofs.completion.complete_at.Goals as goal
@@ -23,4 +23,4 @@ complete_leaf-requires-clause-small c =
 pub returns-clause-done : goal.returns-clause-done
 returns-clause-done c = λ limits.
     c.complete_leaf.ensures.done
-    ∙ told_there c.args.flat.now (draw_of c.args.streams.now.seed) limits c.args.leaf.0 c.args.act c.get.result.now c.args.marking.items c.args.row.now (c.part.ensures ∙ ap (λ (p : Part). Some p) (sym c.get.ensures))
+    ∙ done_there c.args.flat.now (draw_of c.args.streams.now.seed) limits c.args.leaf.0 c.args.act c.get.result.now c.args.marking.items c.args.row.now (c.part.ensures ∙ ap (λ (p : Part). Some p) (sym c.get.ensures))

@@ -1,8 +1,8 @@
 use Rattle.std.proofs.Common.{◌∙◌, ap, subst, sym}
 use Rattle.san_draw.specs.Key.{draw_of}
 use Rattle.san_net.specs.Network.{net_of}
-use Rattle.san_seq.specs.FlatRun.{going_in, stable_in, where_stable}
-use Rattle.san_seq.specs.inner.Held.{IsGoing}
+use Rattle.san_seq.specs.FlatRun.{run_phase_in, stable_in, where_stable}
+use Rattle.san_seq.specs.inner.Held.{IsRunPhase}
 use Rattle.san_seq.specs.declared.seq.Phase.{Phase}
 use Rattle.san_seq.specs.Overs.{limits_in}
 use Rattle.san_seq.proofs.KnownLemmas.{have_nothing}
@@ -12,7 +12,7 @@ pub next_of-requires-clause-idle : goal.next_of-requires-clause-idle
 next_of-requires-clause-idle c =
     let n = c.args.flat.now in
     let draw = draw_of c.requires.1 in
-    let running = subst (λ (g : Phase). IsGoing n c.args.limits.now draw c.args.stale.now (going_in g)) c.in-Running.is c.requires.2.going in
+    let running = subst (λ (g : Phase). IsRunPhase n c.args.limits.now draw c.args.stale.now (run_phase_in g)) c.in-Running.is c.requires.2.run_phase in
     have_nothing n draw c.args.stale.now c.in-Running.state running.1
 
 pub returns-in-Running : goal.returns-in-Running
@@ -20,4 +20,4 @@ returns-in-Running c = λ draw.
     let net = net_of c.args.flat.now draw (limits_in c.args.limits.now) in
     c.where_stable.ensures
     ∙ (ap (λ next. where_stable next c.in-Running.state) (c.next_of.ensures draw (limits_in c.args.limits.now))
-    ∙ ap (λ (g : Phase). stable_in net (going_in g)) (sym c.in-Running.is))
+    ∙ ap (λ (g : Phase). stable_in net (run_phase_in g)) (sym c.in-Running.is))

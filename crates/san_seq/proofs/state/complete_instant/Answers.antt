@@ -5,18 +5,18 @@ use Rattle.san_law.specs.State.{State}
 use Rattle.san_law.specs.Step as law
 use Rattle.san_seq.specs.Overs.{limits_in}
 use Rattle.san_seq.specs.inner.States.{complete_in}
-use Rattle.san_seq.specs.Telling.{ending_in, told_of}
+use Rattle.san_seq.specs.Outcomes.{ending_in, event_or_ending}
 use Rattle.san_seq.proofs.LimitLemmas.{instant_is}
-use Rattle.san_seq.proofs.ToldLemmas.{no_limit, stopped}
+use Rattle.san_seq.proofs.AnswerLemmas.{no_limit, stopped}
 use Rattle.san_seq.proofs.state.complete_instant.Goals as goal
 
-pub returns-in-None-clause-told : goal.returns-in-None-clause-told
-returns-in-None-clause-told c =
+pub returns-in-None-clause-answered : goal.returns-in-None-clause-answered
+returns-in-None-clause-answered c =
     let n = c.args.flat.now in
     let limits = limits_in c.args.limits.now in
     let none = no_limit n c.state.inside.time _ (sym (c.limit_by.ensures n) ∙ c.in-None.is) in
-    c.complete.ensures.told limits
-    ∙ ap (λ y. told_of n y.0) (instant_is n (draw_of c.args.streams.now.seed) limits _ c.args.state c.args.leaf.0 c.args.act c.state.view_is none)
+    c.complete.ensures.answered limits
+    ∙ ap (λ y. event_or_ending n y.0) (instant_is n (draw_of c.args.streams.now.seed) limits _ c.args.state c.args.leaf.0 c.args.act c.state.view_is none)
 
 pub returns-in-None-clause-left : goal.returns-in-None-clause-left
 returns-in-None-clause-left c =
@@ -25,13 +25,13 @@ returns-in-None-clause-left c =
     let none = no_limit n c.state.inside.time _ (sym (c.limit_by.ensures n) ∙ c.in-None.is) in
     c.complete.ensures.left limits ∙ ap (λ y. y.1) (instant_is n (draw_of c.args.streams.now.seed) limits _ c.args.state c.args.leaf.0 c.args.act c.state.view_is none)
 
-pub returns-in-Some-clause-told : goal.returns-in-Some-clause-told
-returns-in-Some-clause-told c =
+pub returns-in-Some-clause-answered : goal.returns-in-Some-clause-answered
+returns-in-Some-clause-answered c =
     let n = c.args.flat.now in
     let s = c.args.state in
     let limits = limits_in c.args.limits.now in
     let says = c.limit_by.ensures n ∙ ap (λ (z : State). option_map (ending_in n z.time) (law.limit_by limits.burst limits.events z.burst z.count)) c.state.view_is in
-    (stopped n s.time c.limit_by.result (law.limit_by limits.burst limits.events s.burst s.count) s (complete_in n (draw_of c.args.streams.now.seed) limits s (s.burst + 1) c.args.leaf.0 c.args.act) c.in-Some.ending refl says c.in-Some.is).told
+    (stopped n s.time c.limit_by.result (law.limit_by limits.burst limits.events s.burst s.count) s (complete_in n (draw_of c.args.streams.now.seed) limits s (s.burst + 1) c.args.leaf.0 c.args.act) c.in-Some.ending refl says c.in-Some.is).answered
 
 pub returns-in-Some-clause-left : goal.returns-in-Some-clause-left
 returns-in-Some-clause-left c =

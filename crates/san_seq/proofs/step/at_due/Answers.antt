@@ -6,7 +6,7 @@ use Rattle.san_net.specs.Network.{net_of}
 use Rattle.san_seq.specs.inner.Dues.{due_in}
 use Rattle.san_seq.specs.Overs.{limits_in}
 use Rattle.san_seq.specs.inner.Running.{IsDrawn}
-use Rattle.san_seq.proofs.KnownLemmas.{fire_sized, if_told, timed_known}
+use Rattle.san_seq.proofs.KnownLemmas.{fire_sized, if_answered, timed_known}
 use Rattle.san_seq.proofs.RangeLemmas.{rows_small}
 use Rattle.san_seq.proofs.RunningLemmas.{counted_small, fired_drawn}
 use Rattle.san_seq.proofs.SteppingLemmas.{due_fires, steps_like, timed_runs}
@@ -43,7 +43,7 @@ returns-then-due-limits-clause-steps c = λ s same.
     let net = net_of c.args.flat.now (draw_of c.args.streams.now.seed) (limits_in c.args.limits.now) in
     let d = due_in c.args.due in
     steps_like c.args.flat.now c.complete_timed-answer.result.0 c.complete_timed-answer.result.1 (fire net c.fire-then.result d.leaf d.act) (at_due net s c.args.state.rows (Some d))
-    c.complete_timed-answer.ensures.told
+    c.complete_timed-answer.ensures.answered
     c.complete_timed-answer.ensures.left
     (due_fires net s c.args.state c.fire-then.result d same c.if-due-limits.true (c.fire-then.ensures.fired net))
 
@@ -59,7 +59,7 @@ returns-then-due-limits-clause-running c =
     let drawn_there = subst (λ (m : ℕ). IsDrawn n limits (m + 1) c.fire-then.result) (sym count) drawn in
     let inside : d.leaf < length c.fire-then.result.rows = omega (arith, c.requires.leaf, c.requires.drawn.rows.each, drawn.rows.each) in
     timed_runs n (draw_of c.args.streams.now.seed) limits c.fire-then.result c.complete_timed-answer.result.1 d.leaf d.act drawn_there inside c.complete_timed-answer.result.0
-    c.complete_timed-answer.ensures.told
+    c.complete_timed-answer.ensures.answered
     c.complete_timed-answer.ensures.left
 
 pub touch-requires-clause-stable : goal.touch-requires-clause-stable
@@ -91,7 +91,7 @@ returns-then-due-limits-clause-known c =
     let d = due_in c.args.due in
     let u = c.fire-then.result in
     let v = c.complete_timed-answer.result.1 in
-    if_told c.complete_timed-answer.result.0 n (fire net u d.leaf d.act).0 _ c.complete_timed-answer.ensures.told
+    if_answered c.complete_timed-answer.result.0 n (fire net u d.leaf d.act).0 _ c.complete_timed-answer.ensures.answered
     (λ t e. timed_known n draw bounds c.is_network.ensures.laid d.leaf d.act (omega (arith, c.requires.leaf, c.requires.drawn.rows.each)) v c.deref.result.now c.deref-then-due-limits.result.now c.fire-then.new.stale c.touch.new.stale
     (c.deref.ensures.value ∙ ap (λ (x : State). x.stable) c.left.view_is) (c.deref-then-due-limits.ensures.value ∙ ap (λ (x : State). x.marking) c.left.view_is)
     (c.fire-then.ensures.flags ∙ c.requires.flags) c.touch.ensures.own c.touch.ensures.touched

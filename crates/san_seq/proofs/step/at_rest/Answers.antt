@@ -10,7 +10,7 @@ use Rattle.san_law.specs.Step.{End, Stepped, Trapped, at_due, at_rest}
 use Rattle.san_net.specs.Network.{net_of}
 use Rattle.san_seq.specs.inner.Dues.{due_in}
 use Rattle.san_seq.specs.Overs.{limits_in}
-use Rattle.san_seq.specs.Telling.{ending_in}
+use Rattle.san_seq.specs.Outcomes.{ending_in}
 use Rattle.san_seq.specs.inner.Rows.{renewal_by, row_at}
 use Rattle.san_seq.specs.inner.Running.{Steps}
 use Rattle.san_seq.proofs.RangeLemmas.{due_within, rows_small}

@@ -9,8 +9,8 @@ use Rattle.san_seq.specs.Overs.{limits_in}
 use Rattle.san_seq.specs.inner.States.{instant_in}
 use Rattle.san_seq.specs.inner.Running.{Steps}
 use Rattle.san_seq.proofs.RangeLemmas.{acts_next, next_in_range}
-use Rattle.san_seq.specs.Telling.{ending_in}
-use Rattle.san_seq.proofs.KnownLemmas.{have_nothing, if_told, instant_known, instant_sized, settled}
+use Rattle.san_seq.specs.Outcomes.{ending_in}
+use Rattle.san_seq.proofs.KnownLemmas.{have_nothing, if_answered, instant_known, instant_sized, settled}
 use Rattle.san_seq.proofs.NextLaws.{next_is}
 use Rattle.san_seq.proofs.RunningLemmas.{ready}
 use Rattle.san_seq.proofs.SteppingLemmas.{ends_like, instant_runs, step_is, steps_like}
@@ -46,7 +46,7 @@ returns-in-Completes-clause-steps c =
     let j = c.in-Completes.leaf.0 in
     let k = c.in-Completes.act in
     let is = sym (c.next_of.ensures draw bounds) ∙ ap next_in c.in-Completes.is in
-    steps_like c.args.flat.now c.complete_instant-answer.result.0 c.complete_instant-answer.result.1 (instant_in c.args.flat.now draw bounds c.args.state j k) (step net c.args.state) c.complete_instant-answer.ensures.told c.complete_instant-answer.ensures.left
+    steps_like c.args.flat.now c.complete_instant-answer.result.0 c.complete_instant-answer.result.1 (instant_in c.args.flat.now draw bounds c.args.state j k) (step net c.args.state) c.complete_instant-answer.ensures.answered c.complete_instant-answer.ensures.left
     (step_is net c.args.state (law.Completes j k) is)
 
 pub returns-in-Completes-clause-running : goal.returns-in-Completes-clause-running
@@ -59,7 +59,7 @@ returns-in-Completes-clause-running c =
     let k = c.in-Completes.act in
     let runs = c.requires.running in
     let inside = (next_in_range n draw bounds c.args.state j k c.requires.running.last (ap acts_next (sym (c.next_of.ensures draw bounds) ∙ ap next_in c.in-Completes.is))).leaf in
-    instant_runs n draw limits c.args.state c.complete_instant-answer.result.1 j k (ready n limits c.args.state runs) (omega (arith, inside, runs.rows.each)) c.complete_instant-answer.result.0 c.complete_instant-answer.ensures.told c.complete_instant-answer.ensures.left
+    instant_runs n draw limits c.args.state c.complete_instant-answer.result.1 j k (ready n limits c.args.state runs) (omega (arith, inside, runs.rows.each)) c.complete_instant-answer.result.0 c.complete_instant-answer.ensures.answered c.complete_instant-answer.ensures.left
 
 pub returns-in-Traps-clause-steps : goal.returns-in-Traps-clause-steps
 returns-in-Traps-clause-steps c =
@@ -126,7 +126,7 @@ returns-in-Completes-clause-known c =
     let u = c.args.state in
     let v = c.complete_instant-answer.result.1 in
     let inside = (next_in_range n draw bounds c.args.state j k c.requires.running.last (ap acts_next (sym (c.next_of.ensures draw bounds) ∙ ap next_in c.in-Completes.is))).leaf in
-    if_told c.complete_instant-answer.result.0 n (instant_in n draw bounds u j k).0 _ c.complete_instant-answer.ensures.told
+    if_answered c.complete_instant-answer.result.0 n (instant_in n draw bounds u j k).0 _ c.complete_instant-answer.ensures.answered
     (λ t e. instant_known n draw bounds c.is_network.ensures.laid j k inside v c.deref.result.now c.deref-in-Completes.result.now c.args.stale.now c.touch.new.stale
     (c.deref.ensures.value ∙ ap (λ (x : State). x.stable) c.left.view_is) (c.deref-in-Completes.ensures.value ∙ ap (λ (x : State). x.marking) c.left.view_is)
     c.requires.known.sized c.touch.ensures.own c.touch.ensures.touched

@@ -1,7 +1,7 @@
 use Rattle.std.proofs.Common.{arith, ◌∙◌, ◌<◌, sym, ap, subst, length}
 use Rattle.san_draw.specs.Key.{draw_of}
 use Rattle.san_law.specs.Net.{Row}
-use Rattle.san_seq.specs.inner.Completions.{completed_by, leaf_told}
+use Rattle.san_seq.specs.inner.Completions.{completed_by, leaf_left}
 use Rattle.san_seq.specs.inner.Rows.{IsRowOf}
 use Rattle.san_seq.proofs.DueLemmas.{keys_stay, put_there, was_there}
 use Rattle.san_seq.proofs.rows.Rows.complete.Goals as goal
@@ -23,5 +23,5 @@ returns-clause-done c = λ limits.
     let m = c.complete_at.result.1.items in
     ap (completed_by c.complete_at.result.0 m) (put_there c.self.inside.rows.items c.args.self.now c.args.leaf.0 row c.complete_at.new.row c.index_mut-row.ensures.value c.self.view_is h)
     ∙ c.complete_at.ensures.done limits
-    ∙ ap (leaf_told c.args.flat.now (draw_of c.args.streams.now.seed) limits c.args.leaf.0 c.args.act c.args.marking.items)
+    ∙ ap (leaf_left c.args.flat.now (draw_of c.args.streams.now.seed) limits c.args.leaf.0 c.args.act c.args.marking.items)
     (was_there c.self.inside.rows.items c.args.self.now c.args.leaf.0 row row c.index_mut-row.ensures.value c.self.view_is h)

@@ -11,7 +11,7 @@ invariant_of-result c =
     record {
       range = c.requires;
       draws = omega (arith, many, c.acts.ensures);
-      going = (
+      run_phase = (
         state_runs c.args.flat.now c.args.limits c.in_ok-marking.marking.items c.in_ok-stable.stable.items c.in_ok-rows.rows c.in_ok-marking.ensures c.in_ok-stable.ensures c.in_ok-rows.ensures,
         all_are_stale c.args.flat.now (draw_of c.in_ok-streams.streams.seed) c.in_ok-stale.stale _ (c.in_ok-stale.ensures ∙ ap (λ (k : ℕ). replicate k true) c.leaves.ensures),
       );

@@ -3,7 +3,7 @@ use Rattle.std.specs.Option.{option_map}
 use Rattle.san_base.specs.declared.numbers.LeafId.{LeafId}
 use Rattle.san_law.specs.Network as law
 use Rattle.san_net.specs.Network.{net_of}
-use Rattle.san_turn.specs.Changes.{OrderValue, told}
+use Rattle.san_turn.specs.Changes.{OrderValue, after_taking}
 use Rattle.san_turn.proofs.Blocks.{block_taken, built, ordered_after}
 use Rattle.san_turn.proofs.order.Order.took.Goals as goal
 
@@ -14,7 +14,7 @@ returns-in-Fire c draw limits =
     block_taken net (built (option_map (λ (l : LeafId). l.0) x.going) x.unsettled x.stale x.timers x.time.0 x.horizon.0) c.args.leaf.0 c.args.taken.now
     (option_map (λ (l : LeafId). l.0) c.going_after-self-inside.result) c.spread.new.flags c.spread-in-Fire.new.flags c.set.new.self c.deref.result.now c.deref-in-Fire.result.now
     c.in-Fire.is c.going_after-self-inside.ensures (c.spread.ensures draw limits) c.deref.ensures.value (c.spread-in-Fire.ensures draw limits) c.deref-in-Fire.ensures.value c.set.ensures
-    ∙ ap (λ (v : OrderValue). told net v c.args.leaf.0 c.args.taken.now) c.self.view_is
+    ∙ ap (λ (v : OrderValue). after_taking net v c.args.leaf.0 c.args.taken.now) c.self.view_is
 
 pub invariant_of-self-in-Fire : goal.invariant_of-self-in-Fire
 invariant_of-self-in-Fire c =

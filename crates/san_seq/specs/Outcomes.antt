@@ -1,4 +1,4 @@
--- What is told of a run: its events and its ending, in the network's numbers.
+-- What is answered of a run: its events and its ending, in the network's numbers.
 use Rattle.std.specs.Prelude.{ℕ, map, Result, Ok, Err}
 use Rattle.san_base.specs.declared.ending.Ending.{Ending}
 use Rattle.san_base.specs.declared.ending.Ending.TheVariants as ending
@@ -22,9 +22,9 @@ ending_in n time law.Events = ending.Stop (stop.Events (record { 0 = time }))
 ending_in n time (law.Trapped j k trap) = ending.Stop (stop.Trap trap (record { 0 = time }) (act_of n j k))
 
 -- an event, or the ending
-abbrev pub told_of : Network → law.Stepped → Result Event Ending
-told_of n (law.Happened e) = Ok (event_in n e)
-told_of n (law.Over time e) = Err (ending_in n time e)
+abbrev pub event_or_ending : Network → law.Stepped → Result Event Ending
+event_or_ending n (law.Happened e) = Ok (event_in n e)
+event_or_ending n (law.Over time e) = Err (ending_in n time e)
 
 abbrev pub stop_of : Ending → Stepped
 stop_of (ending.End horizon) = stepped.End

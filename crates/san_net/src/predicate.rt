@@ -11,23 +11,23 @@ use san_base::Trap;
 use san_expr::{Expr, Marked, eval};
 
 fn truth_of<V: Marked>(e: &Expr, view: &mut V) -> Result<bool, Trap>
-    requires { IsTrue (places_below e.now (V.sight view.old).places) }
-    ensures { Evaluates (V.sight view.old) (V.sight view.new) (truth_of e.now) result }
+    requires { IsTrue (places_below e.now (V.view_state view.old).places) }
+    ensures { Evaluates (V.view_state view.old) (V.view_state view.new) (truth_of e.now) result }
 {
     let x = eval(e, view)?;
     Ok(x != 0)
 }
 
 fn has_tokens<V: Marked>(place: u32, weight: u32, view: &mut V) -> Result<bool, Trap>
-    requires { place < (V.sight view.old).places }
-    ensures { Evaluates (V.sight view.old) (V.sight view.new) (has_tokens place weight) result }
+    requires { place < (V.view_state view.old).places }
+    ensures { Evaluates (V.view_state view.old) (V.view_state view.new) (has_tokens place weight) result }
 {
     Ok(view.read(place) >= weight)
 }
 
 fn predicate<V: Marked>(input: &Input, view: &mut V) -> Result<bool, Trap>
-    requires { IsTrue (input_below input.now (V.sight view.old).places) }
-    ensures { Evaluates (V.sight view.old) (V.sight view.new) (predicate_of input.now) result }
+    requires { IsTrue (input_below input.now (V.view_state view.old).places) }
+    ensures { Evaluates (V.view_state view.old) (V.view_state view.new) (predicate_of input.now) result }
 {
     match input {
         Input::Arc(place, weight) => has_tokens(*place, *weight, view),
@@ -36,8 +36,8 @@ fn predicate<V: Marked>(input: &Input, view: &mut V) -> Result<bool, Trap>
 }
 
 fn all_hold<V: Marked>(inputs: &[Input], view: &mut V) -> Result<bool, Trap>
-    requires { IsTrue (inputs_below inputs.now (V.sight view.old).places) }
-    ensures { Evaluates (V.sight view.old) (V.sight view.new) (all_hold inputs.now) result }
+    requires { IsTrue (inputs_below inputs.now (V.view_state view.old).places) }
+    ensures { Evaluates (V.view_state view.old) (V.view_state view.new) (all_hold inputs.now) result }
 {
     for input in inputs {
         let passed = predicate(input, view)?;
@@ -51,8 +51,8 @@ fn all_hold<V: Marked>(inputs: &[Input], view: &mut V) -> Result<bool, Trap>
 /// Whether an activity is enabled: its predicates in order of declaration, up to the first that
 /// isn't passed or traps. Sanders and Meyer's enabling, with own rules for the order and for traps.
 pub fn enabled<V: Marked>(activity: &Activity, view: &mut V) -> Result<bool, Trap>
-    requires { IsTrue (activity_below activity.now (V.sight view.old).places) }
-    ensures { Evaluates (V.sight view.old) (V.sight view.new) (enabled_of activity.now) result }
+    requires { IsTrue (activity_below activity.now (V.view_state view.old).places) }
+    ensures { Evaluates (V.view_state view.old) (V.view_state view.new) (enabled_of activity.now) result }
 {
     all_hold(activity.inputs.as_slice(), view)
 }

@@ -5,8 +5,8 @@ use Rattle.san_law.specs.Step.{Ending, Event, Trapped, count_limit, limit_at}
 use Rattle.san_law.specs.Block.{Completion, Fault}
 
 -- events, and perhaps the ending that stops them
-abbrev pub Told : Type 0
-Told = List Event × Option Ending
+abbrev pub Admitted : Type 0
+Admitted = List Event × Option Ending
 
 -- a limit goes before a trap
 abbrev pub ending_or : Option Ending → Ending → Ending
@@ -23,18 +23,18 @@ abbrev pub event_by : ℕ → ℕ → Completion → Event
 event_by time j c = record { time = time; leaf = j; act = c.act; case = c.case; impulses = c.impulses }
 
 -- an event, and then the others
-abbrev pub event_then : Event → Told → Told
+abbrev pub event_then : Event → Admitted → Admitted
 event_then e t = (e ∷ t.0, t.1)
 
 -- a limit lets no more through
-abbrev pub unless_told : Option Ending → Told → Told
-unless_told (Some e) rest = ([], Some e)
-unless_told None rest = rest
+abbrev pub unless_ended : Option Ending → Admitted → Admitted
+unless_ended (Some e) rest = ([], Some e)
+unless_ended None rest = rest
 
 -- one completion after another, each under the limits of a step
-abbrev pub told : Net → ℕ → ℕ → ℕ → ℕ → Option Fault → List Completion → Told
-told net time j burst count fault [] = ([], closing net j burst count fault)
-told net time j burst count fault (c ∷ cs) = unless_told (limit_at net burst count) (event_then (event_by time j c) (told net time j (burst + 1) (count + 1) fault cs))
+abbrev pub admitted : Net → ℕ → ℕ → ℕ → ℕ → Option Fault → List Completion → Admitted
+admitted net time j burst count fault [] = ([], closing net j burst count fault)
+admitted net time j burst count fault (c ∷ cs) = unless_ended (limit_at net burst count) (event_then (event_by time j c) (admitted net time j (burst + 1) (count + 1) fault cs))
 
 -- the ending of a fault without a limit
 abbrev pub trap_of : ℕ → Option Fault → Option Ending
@@ -42,10 +42,10 @@ trap_of j None = None
 trap_of j (Some f) = Some (Trapped j f.act f.trap)
 
 -- a fired completion sets the burst to 0, and meets the limit of events alone
-abbrev pub told_rest : Net → ℕ → ℕ → ℕ → Option Fault → List Completion → Told
-told_rest net time j count fault [] = ([], trap_of j fault)
-told_rest net time j count fault (c ∷ cs) = event_then (event_by time j c) (told net time j 0 (count + 1) fault cs)
+abbrev pub admitted_rest : Net → ℕ → ℕ → ℕ → Option Fault → List Completion → Admitted
+admitted_rest net time j count fault [] = ([], trap_of j fault)
+admitted_rest net time j count fault (c ∷ cs) = event_then (event_by time j c) (admitted net time j 0 (count + 1) fault cs)
 
 -- the fired completion within the event limit
-abbrev pub told_fire : Net → ℕ → ℕ → ℕ → Option Fault → List Completion → Told
-told_fire net time j count fault cs = unless_told (count_limit net count) (told_rest net time j count fault cs)
+abbrev pub admitted_fire : Net → ℕ → ℕ → ℕ → Option Fault → List Completion → Admitted
+admitted_fire net time j count fault cs = unless_ended (count_limit net count) (admitted_rest net time j count fault cs)

@@ -1,16 +1,17 @@
 -- What one more cell changes of what is known of those seen.
+use Rattle.san_base.proofs.Bools.{or_right, or_none}
 use Rattle.std.proofs.Common.{◌≡◌, ◌≤◌, ◌<◌, ℕ, Bool, true, false, not, cond, ◌||◌, List, [], ◌∷◌, ◌++◌, length, refl, ap, sym, ◌∙◌, subst, arith, map, inl, inr, ◌⊎◌, nat_le, length-append}
 use Rattle.std.proofs.Math.Bool.{true≢false}
 use Rattle.std.specs.List.{list_any}
 use Rattle.std.proofs.lemmas.Bool.Decides.{leb_tells}
 use Rattle.std.proofs.lemmas.List.{length-map, map-append}
-use Rattle.san_flat.proofs.HomeLemmas.{same-equiv, or-true}
+use Rattle.san_flat.proofs.HomeLemmas.{same-equiv}
 use Rattle.san_flat.specs.Homes.{CellHome, same, home_of_key}
 use Rattle.san_flat.specs.Networks.{value_at}
 use Rattle.san_flat.specs.inner.Sightings.{IsSeen, Sees}
 use Rattle.san_flat.specs.declared.home.HomeKey.{HomeKey}
 use Rattle.san_flat.specs.declared.seen.Seen.{Seen}
-use Rattle.san_net.proofs.SeenLemmas.{list_any-map, or-false}
+use Rattle.san_net.proofs.SeenLemmas.{list_any-map}
 use Rattle.san_net.specs.Numbering.{firsts, often}
 
 -- a home that was there has the value that it had
@@ -28,14 +29,14 @@ value-new [] [] k v e none = ap (λ b. cond b v 0) (same-equiv.refl k)
 value-new [] (w ∷ initial) k v e none = absurd (omega (arith, e))
 value-new (x ∷ homes) [] k v e none = absurd (omega (arith, e))
 value-new (x ∷ homes) (w ∷ initial) k v e none =
-    let two = or-false (same k x) (list_any (same k) homes) none in
+    let two = or_none (same k x) (list_any (same k) homes) none in
     ap (λ b. cond b w (value_at (homes ++ k ∷ []) (initial ++ v ∷ []) k)) two.0 ∙ value-new homes initial k v (omega (arith, e)) two.1
 
 values-old : (homes : List CellHome) (initial : List ℕ) (h : CellHome) (v : ℕ) → length homes ≡ length initial → (ks : List CellHome) → ((k : CellHome) → list_any (same k) ks ≡ true → list_any (same k) homes ≡ true) → map (value_at (homes ++ h ∷ []) (initial ++ v ∷ [])) ks ≡ map (value_at homes initial) ks
 values-old homes initial h v e [] all = refl
 values-old homes initial h v e (k ∷ ks) all =
     ap (λ x. x ∷ map (value_at (homes ++ h ∷ []) (initial ++ v ∷ [])) ks) (value-old homes initial h k v e (all k (ap (λ b. b || list_any (same k) ks) (same-equiv.refl k))))
-    ∙ ap (λ xs. value_at homes initial k ∷ xs) (values-old homes initial h v e ks (λ j t. all j (ap (λ b. same j k || b) t ∙ or-true (same j k))))
+    ∙ ap (λ xs. value_at homes initial k ∷ xs) (values-old homes initial h v e ks (λ j t. all j (ap (λ b. same j k || b) t ∙ or_right (same j k))))
 
 pub even-push : (homes : List CellHome) (initial : List ℕ) (h : CellHome) (v : ℕ) → length homes ≡ length initial → length (homes ++ h ∷ []) ≡ length (initial ++ v ∷ [])
 even-push homes initial h v e = omega (arith, e, length-append homes (h ∷ []), length-append initial (v ∷ []))
@@ -76,7 +77,7 @@ values-again homes initial ks h v e all = sym (values-old homes initial h v e ks
 
 -- as many keys as there are different homes
 keys-counted : (homes : List CellHome) (initial : List ℕ) (s : Seen) → IsSeen homes initial s → length s.homes.keys ≡ length (firsts same homes)
-keys-counted homes initial s w = sym (length-map s.homes.keys home_of_key) ∙ ap length w.told.keys
+keys-counted homes initial s w = sym (length-map s.homes.keys home_of_key) ∙ ap length w.recorded.keys
 
 pub sees : (homes : List CellHome) (initial : List ℕ) (s : Seen) (n : ℕ) → n ≡ length s.homes.keys → IsSeen homes initial s → Sees (nat_le n 65536) homes initial s
 sees homes initial s n e w = by_test (leb_tells n 65536)
@@ -89,7 +90,7 @@ pub few-places : (homes : List CellHome) (initial : List ℕ) (s : Seen) → IsS
 few-places homes initial s w few = omega (arith, few, keys-counted homes initial s w)
 
 counts-long : (homes : List CellHome) (initial : List ℕ) (s : Seen) → IsSeen homes initial s → length s.counts.items ≡ length (map home_of_key s.homes.keys)
-counts-long homes initial s w = ap length w.told.counts ∙ length-map (map home_of_key s.homes.keys) (often same homes)
+counts-long homes initial s w = ap length w.recorded.counts ∙ length-map (map home_of_key s.homes.keys) (often same homes)
 
 pub counts_few : (homes : List CellHome) (initial : List ℕ) (s : Seen) → IsSeen homes initial s → length s.homes.keys ≤ 65536 → length s.counts.items ≤ 65536
 counts_few homes initial s w few = omega (arith, few, counts-long homes initial s w, length-map s.homes.keys home_of_key)
