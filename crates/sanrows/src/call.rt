@@ -7,6 +7,9 @@ use std::alloc::Global;
 /// Bytes that a sink takes beyond what is expected, so that more than that is seen.
 pub(crate) const SPARE_BYTES: usize = 64;
 
+/// The most bytes that a row may let a read or a put move.
+pub(crate) const MOST_BYTES: u64 = 1_000_000;
+
 /// Which of the outside's parts fails.
 #[derive(Clone, Copy, PartialEq, Eq)]
 pub(crate) enum Side {
@@ -67,7 +70,7 @@ impl<'a> Call<'a> {
     pub(crate) fn run(&self, alloc: Global, text: &[u8]) -> Result<Option<Ran>, NoMemory> {
         let words = self.all_words(alloc)?;
         let words = words.as_slice();
-        let bytes = self.bytes.min(1_000_000).max(1) as usize;
+        let bytes = self.bytes.min(MOST_BYTES).max(1) as usize;
         let failing_reads = self.failing_at(alloc, Side::Source)?;
         let mut source = MemSource::new(Vec::from_slice(alloc, text)?, bytes, failing_reads);
         let failing_puts = self.failing_at(alloc, Side::Sink)?;

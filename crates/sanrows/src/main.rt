@@ -11,7 +11,7 @@ mod trial;
 
 use crate::folder::files;
 use crate::row::{MARK, Row};
-use crate::trial::fault_of;
+use crate::trial::{Fault, fault_of, is_awaited};
 use std::alloc::Global;
 use std::fs::Files;
 use std::process::ExitCode;
@@ -43,12 +43,13 @@ fn say(rt: &HostRuntime, alloc: Global, piece: &str) -> io::Result<bool> {
     };
     let name = row.name;
     match fault_of(alloc, &row) {
-        Ok(None) => {
+        Ok(fault) if is_awaited(&row, fault) => {
             println!(rt; "row {name} ok")?;
             Ok(true)
         }
-        Ok(Some(fault)) => {
-            println!(rt; "row {name} {}", fault.text())?;
+        Ok(fault) => {
+            let text = fault.map_or("doesn't fail", Fault::text);
+            println!(rt; "row {name} {text}")?;
             Ok(false)
         }
         Err(_) => {

@@ -5,7 +5,7 @@ use san_base::NoMemory;
 use std::alloc::Global;
 
 /// The words that a setting may begin with.
-const KNOWN: [&str; 14] = [
+const KNOWN: [&str; 15] = [
     "calls",
     "words",
     "show-words",
@@ -20,6 +20,7 @@ const KNOWN: [&str; 14] = [
     "prefixes",
     "ends",
     "begins",
+    "fails",
 ];
 
 /// Whether each line of the settings begins with a known word.

@@ -1,7 +1,7 @@
 //! All calls that a row names, each in all of its settings, and what of them is otherwise than the
 //! row says.
 
-use crate::call::{Call, Ran, SPARE_BYTES, Side};
+use crate::call::{Call, MOST_BYTES, Ran, SPARE_BYTES, Side};
 use crate::row::Row;
 use crate::setting::{are_known, numbers};
 use san_base::NoMemory;
@@ -36,6 +36,15 @@ impl Fault {
             Fault::Reads => "reads its source",
             Fault::Outputs => "has different outputs",
         }
+    }
+}
+
+/// Whether what of a row doesn't come true is what the row says, or nothing where it says nothing.
+pub(crate) fn is_awaited(row: &Row<'_>, fault: Option<Fault>) -> bool {
+    match (fault, row.value("fails")) {
+        (None, None) => true,
+        (Some(fault), Some(text)) => fault.text() == text,
+        _ => false,
     }
 }
 
@@ -97,7 +106,10 @@ impl<'a> Wanted<'a> {
 /// The values that a row's settings list.
 #[derive(Drop)]
 struct Lists {
+    /// The bytes that a read or a put moves at most, each from 1 to `MOST_BYTES`.
     bytes: Vec<u64>,
+    /// How many blanks stand before the text.
+    blanks: u64,
     /// The calls of the outside that fail, one at a time; just none where the row names none.
     failing: Vec<Option<(Side, u64)>>,
     /// The lengths of the prefixes of the text; none where the text is taken whole.
@@ -125,15 +137,30 @@ fn failing(alloc: Global, row: &Row<'_>) -> Result<Option<Vec<Option<(Side, u64)
     Ok(Some(failing))
 }
 
+/// The numbers of bytes that a read or a put moves at most; none where one of them can't be.
+fn bytes_of(alloc: Global, row: &Row<'_>) -> Result<Option<Vec<u64>>, NoMemory> {
+    let Some(bytes) = numbers(alloc, row, "bytes", "4096")? else {
+        return Ok(None);
+    };
+    for number in bytes.iter() {
+        if *number < 1 || *number > MOST_BYTES {
+            return Ok(None);
+        }
+    }
+    Ok(Some(bytes))
+}
+
 impl Lists {
-    /// None where a setting says no numbers.
+    /// None where a setting says no numbers, or such as can't be.
     fn read(alloc: Global, row: &Row<'_>) -> Result<Option<Lists>, NoMemory> {
-        let bytes = numbers(alloc, row, "bytes", "4096")?;
+        let bytes = bytes_of(alloc, row)?;
+        let blanks = row.value("blanks").unwrap_or("0").parse::<u64>();
         let prefixes = numbers(alloc, row, "prefixes", "")?;
         let failing = failing(alloc, row)?;
-        match (bytes, prefixes, failing) {
-            (Some(bytes), Some(prefixes), Some(failing)) => Ok(Some(Lists {
+        match (bytes, blanks, prefixes, failing) {
+            (Some(bytes), Ok(blanks), Some(prefixes), Some(failing)) => Ok(Some(Lists {
                 bytes,
+                blanks,
                 failing,
                 prefixes,
             })),
@@ -275,13 +302,8 @@ impl<'a> Trial<'a> {
     }
 }
 
-/// The bytes of a row's text, or the blanks that stand for it.
-fn text_of(alloc: Global, row: &Row<'_>) -> Result<Vec<u8>, NoMemory> {
-    let blanks = row
-        .value("blanks")
-        .unwrap_or("0")
-        .parse::<u64>()
-        .unwrap_or(0);
+/// The bytes of a row's text behind so many blanks.
+fn text_of(alloc: Global, row: &Row<'_>, blanks: u64) -> Result<Vec<u8>, NoMemory> {
     let mut text = Vec::new(alloc);
     for _ in 0..blanks {
         text.push(b' ')?;
@@ -322,7 +344,7 @@ fn fault_by<'a>(
         wanted,
         first: None,
     };
-    let text = text_of(alloc, row)?;
+    let text = text_of(alloc, row, lists.blanks)?;
     if lists.prefixes.is_empty() {
         return trial.fault_by_calls(alloc, lists, row, text.as_slice());
     }
