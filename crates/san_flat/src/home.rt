@@ -7,7 +7,7 @@ ghost use Rattle.san_tree.specs.Instances.{IsWithin};
 
 use san_base::NoMemory;
 use san_check::Model;
-use san_tree::Instance;
+use san_tree::{Homes, Instance};
 use std::alloc::Global;
 
 /// What a cell of a leaf is in the network: the path to the node below which it stays, the place
@@ -24,15 +24,17 @@ pub struct HomeKey {
 pub(crate) fn home_of(
     alloc: Global,
     model: &Model,
+    homes: &Homes<'_>,
     leaf: &Instance,
     cell: (u32, u32),
 ) -> Result<HomeKey, NoMemory>
-    requires { IsWithin MAX_PATH leaf.now }
+    requires tree { homes.now ≡ model.now.tree }
+    requires short { IsWithin MAX_PATH leaf.now }
     ensures { IfOk result (λ h. home_of_key h ≡ home_of model.now.tree.nodes model.now.tree.root
         leaf.now.path cell) }
 {
     let path = leaf.path.as_slice();
-    let home = model.tree().home(path, cell.0);
+    let home = homes.home(path, cell.0);
     Ok(HomeKey {
         path: Vec::from_slice(alloc, &path[..home.depth as usize])?,
         place: home.place,

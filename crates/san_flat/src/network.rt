@@ -22,7 +22,7 @@ use crate::seen::{Seen, see_all};
 use san_base::{MAX_ACTS, MAX_LEAVES, Name, NoMemory};
 use san_check::Model;
 use san_net::{Flat, Reward};
-use san_tree::Instance;
+use san_tree::{Homes, Instance};
 use std::alloc::Global;
 use thiserror::Error;
 
@@ -98,9 +98,11 @@ fn places_of(alloc: Global, seen: Seen) -> Result<(Numbers, Vec<u32>), NoMemory>
 fn assembled(
     alloc: Global,
     model: &Model,
+    homes: &Homes<'_>,
     leaves: &[Instance],
     seen: Seen,
 ) -> Result<Flat, NoMemory>
+    requires tree { homes.now ≡ model.now.tree }
     requires leaves { leaves.now ≡ leaves_of model.now }
     requires short { All (IsWithin MAX_PATH) leaves.now }
     requires few { leaf_count model.now ≤ MAX_LEAVES }
@@ -110,14 +112,20 @@ fn assembled(
 {
     leaves_are_known(model);
     let (numbers, initial) = places_of(alloc, seen)?;
-    let parts = parts_of(alloc, model, &numbers, leaves)?;
+    let parts = parts_of(alloc, model, homes, &numbers, leaves)?;
     let paths = paths_of(alloc, model, leaves)?;
     let rewards = rewards_of(alloc, model.rewards())?;
     Flat::assemble(alloc, parts, paths, initial, numbers.shared, rewards)
 }
 
 /// The network of a model with these leaves.
-fn flat_of(alloc: Global, model: &Model, leaves: &[Instance]) -> Result<Flat, FlatFault>
+fn flat_of(
+    alloc: Global,
+    model: &Model,
+    homes: &Homes<'_>,
+    leaves: &[Instance],
+) -> Result<Flat, FlatFault>
+    requires tree { homes.now ≡ model.now.tree }
     requires leaves { leaves.now ≡ leaves_of model.now }
     requires short { All (IsWithin MAX_PATH) leaves.now }
     requires few { leaf_count model.now ≤ MAX_LEAVES }
@@ -126,13 +134,13 @@ fn flat_of(alloc: Global, model: &Model, leaves: &[Instance]) -> Result<Flat, Fl
     ensures refuses { IfErr result (λ fault. Refuses fault model.now) }
 {
     leaves_are_known(model);
-    let Some(seen) = see_all(alloc, model, leaves)? else {
+    let Some(seen) = see_all(alloc, model, homes, leaves)? else {
         return Err(FlatFault::Places);
     };
     if act_count(model, leaves) > MAX_ACTS {
         return Err(FlatFault::Acts);
     }
-    Ok(assembled(alloc, model, leaves, seen)?)
+    Ok(assembled(alloc, model, homes, leaves, seen)?)
 }
 
 /// The network of a model: its leaves in tree order over the places that their cells become, the
@@ -147,5 +155,6 @@ pub fn flatten(alloc: Global, model: &Model) -> Result<Flat, FlatFault>
         return Err(FlatFault::Leaves);
     }
     let leaves = model.tree().instances(alloc)?;
-    flat_of(alloc, model, &leaves)
+    let homes = model.tree().homes(alloc)?;
+    flat_of(alloc, model, &homes, &leaves)
 }

@@ -15,7 +15,7 @@ use crate::numbers::{Numbers, slot_of};
 use san_base::{ActId, Items, LeafId, MAX_ACTS, NoMemory, Shared};
 use san_check::Model;
 use san_net::{Part, Slot};
-use san_tree::Instance;
+use san_tree::{Homes, Instance};
 use std::alloc::Global;
 
 /// The number of the activities of some leaves, or one more than a network may have where they have more.
@@ -33,9 +33,11 @@ pub(crate) fn act_count(model: &Model, leaves: &[Instance]) -> u32
 fn slots_of(
     alloc: Global,
     model: &Model,
+    homes: &Homes<'_>,
     numbers: &Numbers,
     leaf: &Instance,
 ) -> Result<Items<Slot>, NoMemory>
+    requires tree { homes.now ≡ model.now.tree }
     requires short { IsWithin MAX_PATH leaf.now }
     ensures { IfOk result (λ slots. (homes : List CellHome) → AreNumbers homes numbers.now
         → AreAmong homes (homes_in model.now.tree.nodes model.now.tree.root model.now.cells leaf.now)
@@ -45,7 +47,7 @@ fn slots_of(
     let cells = cells_of(model, leaf.atomic);
     let mut slots = Vec::with_capacity(alloc, cells.len())?;
     'cells: for cell in cells {
-        let home = home_of(alloc, model, leaf, *cell)?;
+        let home = home_of(alloc, model, homes, leaf, *cell)?;
         slots.push(slot_of(numbers, &home))?;
     }
     Ok(Items::from_vec(slots))
@@ -55,11 +57,13 @@ fn slots_of(
 fn part_of(
     alloc: Global,
     model: &Model,
+    homes: &Homes<'_>,
     numbers: &Numbers,
     leaf: &Instance,
     number: u32,
     first: u32,
 ) -> Result<Shared<Part>, NoMemory>
+    requires tree { homes.now ≡ model.now.tree }
     requires short { IsWithin MAX_PATH leaf.now }
     requires there { leaf.now.atomic < length model.now.atomics }
     requires numbers { AreNumbers (homes_of model.now) numbers.now }
@@ -67,7 +71,7 @@ fn part_of(
         model.now.tree.root model.now.cells leaf.now) }
     ensures { IfOk result (λ part. part ≡ part_of model.now number first leaf.now) }
 {
-    let slots = slots_of(alloc, model, numbers, leaf)?;
+    let slots = slots_of(alloc, model, homes, numbers, leaf)?;
     let atomic = model.atomics()[leaf.atomic as usize].share()?;
     Shared::new(
         alloc,
@@ -84,9 +88,11 @@ fn part_of(
 pub(crate) fn parts_of(
     alloc: Global,
     model: &Model,
+    homes: &Homes<'_>,
     numbers: &Numbers,
     leaves: &[Instance],
 ) -> Result<Vec<Shared<Part>>, NoMemory>
+    requires tree { homes.now ≡ model.now.tree }
     requires few { length leaves.now ≤ MAX_LEAVES }
     requires acts { acts_in model.now leaves.now ≤ MAX_ACTS }
     requires short { All (IsWithin MAX_PATH) leaves.now }
@@ -99,7 +105,7 @@ pub(crate) fn parts_of(
     let mut parts = Vec::with_capacity(alloc, leaves.len())?;
     let mut first: u32 = 0;
     'leaves: for (at, leaf) in leaves.iter().enumerate() {
-        parts.push(part_of(alloc, model, numbers, leaf, at as u32, first)?)?;
+        parts.push(part_of(alloc, model, homes, numbers, leaf, at as u32, first)?)?;
         first += acts_of(model, leaf.atomic);
     }
     Ok(parts)

@@ -13,7 +13,7 @@ use crate::leaf::{cells_of, initial_of};
 use indexmap::IndexSet;
 use san_base::{MAX_PLACES, NoMemory};
 use san_check::Model;
-use san_tree::Instance;
+use san_tree::{Homes, Instance};
 use std::alloc::Global;
 
 /// The different homes of the cells that were seen, with how often each was, up to twice, and the
@@ -66,8 +66,10 @@ fn see_leaf(
     alloc: Global,
     seen: &mut Seen,
     model: &Model,
+    homes: &Homes<'_>,
     leaf: &Instance,
 ) -> Result<bool, NoMemory>
+    requires tree { homes.now ≡ model.now.tree }
     requires short { IsWithin MAX_PATH leaf.now }
     requires even { IsEven model.now leaf.now }
     ensures { IfOk result (λ fits. (homes : List CellHome) (initial : List ℕ)
@@ -78,7 +80,7 @@ fn see_leaf(
     let cells = cells_of(model, leaf.atomic);
     let values = initial_of(model, leaf.atomic);
     'cells: for (at, cell) in cells.iter().enumerate() {
-        let home = home_of(alloc, model, leaf, *cell)?;
+        let home = home_of(alloc, model, homes, leaf, *cell)?;
         if !see(seen, home, values[at])? {
             return Ok(false);
         }
@@ -91,8 +93,10 @@ fn see_leaf(
 pub(crate) fn see_all(
     alloc: Global,
     model: &Model,
+    homes: &Homes<'_>,
     leaves: &[Instance],
 ) -> Result<Option<Seen>, NoMemory>
+    requires tree { homes.now ≡ model.now.tree }
     requires short { All (IsWithin MAX_PATH) leaves.now }
     requires even { All (IsEven model.now) leaves.now }
     ensures { IfOk result (λ seen. SeesAll seen (homes_from model.now leaves.now) (values_from
@@ -104,7 +108,7 @@ pub(crate) fn see_all(
         values: Vec::new(alloc),
     };
     'leaves: for leaf in leaves {
-        if !see_leaf(alloc, &mut seen, model, leaf)? {
+        if !see_leaf(alloc, &mut seen, model, homes, leaf)? {
             return Ok(None);
         }
     }

@@ -6,4 +6,5 @@ pub mod ValueLemmas
 pub mod ValidLemmas
 pub mod DepthLemmas
 pub mod ShareLemmas
+pub mod SharedLemmas
 pub mod ReachLemmas

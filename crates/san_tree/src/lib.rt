@@ -8,6 +8,7 @@ mod laws;
 mod limits;
 mod node;
 mod share;
+mod shared;
 mod tree;
 mod valid;
 
@@ -18,4 +19,4 @@ pub use limits::{MAX_CHILDREN, MAX_NODES, MAX_PATH, MAX_SHARES};
 pub use node::Node;
 pub use san_base::{Items, Name, NoMemory};
 pub use share::Share;
-pub use tree::Tree;
+pub use tree::{Homes, Tree};
