@@ -1,6 +1,6 @@
 //! The winner tree: keys, the matches between them, and their winners.
 
-ghost use Rattle.std.specs.Prelude.{◌≡◌, ℕ, ◌+◌, ◌-◌, ◌<◌, ◌≤◌, ◌≢◌, length, IfOk, slice_index_or, replicate, None};
+ghost use Rattle.std.specs.Prelude.{◌≡◌, ℕ, ◌+◌, ◌-◌, ◌<◌, ◌≤◌, ◌≢◌, length, IfOk, IsTrue, slice_index_or, replicate, None};
 ghost use Rattle.san_winner.specs.declared.matches.TheConstants.{MAX_SIZE};
 ghost use Rattle.san_winner.specs.Least.{sooner, leaf, span, IsTree, IsTreeBut};
 
@@ -35,7 +35,19 @@ fn leaf(at: usize, key: Option<u64>) -> Won
     }
 }
 
-/// Plays the matches from a node to the root again.
+/// Whether two winners are one.
+fn is_same(a: Won, b: Won) -> bool
+    ensures { IsTrue result → a ≡ b }
+{
+    match (a, b) {
+        (None, None) => true,
+        (Some(a), Some(b)) => a.0 == b.0 && a.1 == b.1,
+        _ => false,
+    }
+}
+
+/// Plays the matches from a node towards the root again, as far as a winner changes: those above one
+/// that stays are right.
 fn raise(nodes: &mut [Won], size: usize, first: usize)
     requires long { length nodes.old ≡ size + size }
     requires small { size < MAX_SIZE }
@@ -46,7 +58,11 @@ fn raise(nodes: &mut [Won], size: usize, first: usize)
 {
     let mut at = first;
     'path: while at > 0 {
-        nodes[at] = sooner(nodes[at + at], nodes[at + at + 1]);
+        let winner = sooner(nodes[at + at], nodes[at + at + 1]);
+        if is_same(nodes[at], winner) {
+            return;
+        }
+        nodes[at] = winner;
         at /= 2;
     }
 }
