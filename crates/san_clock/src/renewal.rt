@@ -1,6 +1,6 @@
 //! The renewal of a leaf's timers.
 
-ghost use Rattle.std.specs.Prelude.{◌≡◌, ◌≤◌, ◌<◌, ◌+◌, ◌*◌, ℕ, List, length, map, not, All};
+ghost use Rattle.std.specs.Prelude.{◌≡◌, ◌≤◌, ◌<◌, ◌+◌, ◌*◌, ℕ, List, length, map, not, All, IfErr};
 ghost use Rattle.std.specs.Option.{option_map};
 ghost use Rattle.san_base.specs.declared.limits.TheConstants.{MAX_DRAWS, MAX_TIME};
 ghost use Rattle.san_clock.specs.Rows.{renewing_by, timer_in};
@@ -52,6 +52,7 @@ fn renew_acts<V: PlainView, D: DrawSource>(
         0 acts.now (map (option_map timer_in) timers.old) delays.old }
     ensures numbers { (most : ℕ) → All (λ n. n ≤ most) delays.old
         → All (λ n. n ≤ most + 1) delays.new }
+    ensures within { IfErr result (λ fault. fault.0 < length acts.now) }
     ensures sized { (length timers.new ≡ length timers.old) × (length delays.new
         ≡ length delays.old) }
     ensures same { V.values view.new ≡ V.values view.old }
@@ -94,6 +95,7 @@ pub fn renew<V: PlainView, D: DrawSource>(
         { values = V.values view.old; row = row.old }) }
     ensures numbers { (most : ℕ) → All (λ n. n ≤ most) row.old.delays
         → All (λ n. n ≤ most + 1) row.new.delays }
+    ensures within { IfErr result (λ fault. fault.0 < length part.now.atomic.acts) }
     ensures sized { (length row.new.timers ≡ length row.old.timers) × (length row.new.delays
         ≡ length row.old.delays) }
     ensures cases { row.new.cases ≡ row.old.cases }

@@ -78,11 +78,36 @@ impl Row {
         })
     }
 
+    /// An equal row.
+    pub fn copy(&self, alloc: Global) -> Result<Row, NoMemory>
+        ensures { IfOk result (λ r. r ≡ self.now) }
+    {
+        Ok(Row {
+            timers: self.timers.to_vec(alloc)?,
+            delays: self.delays.to_vec(alloc)?,
+            cases: self.cases.to_vec(alloc)?,
+        })
+    }
+
     /// The timers, by activity.
     pub fn timers(&self) -> &[Option<Timer>]
         ensures { map (option_map timer_in) result.now ≡ self.now.timers }
     {
         self.timers.as_slice()
+    }
+
+    /// The numbers of delay draws that were taken, by activity.
+    pub fn delays(&self) -> &[u64]
+        ensures { result.now ≡ self.now.delays }
+    {
+        self.delays.as_slice()
+    }
+
+    /// The numbers of case draws that were taken, by activity.
+    pub fn cases(&self) -> &[u64]
+        ensures { result.now ≡ self.now.cases }
+    {
+        self.cases.as_slice()
     }
 
     /// Drops an activity's timer.

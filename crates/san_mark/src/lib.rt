@@ -3,7 +3,7 @@
 //! | Call of `Overlay` | Steps, of n cells | Memory |
 //! |---|---|---|
 //! | `new` | n | 8 bytes a cell |
-//! | `get`, `set` | 1 | none |
+//! | `of`, `get`, `set`, `as_slice` | 1 | none |
 //! | `clear`, `take_over` | n | none |
 #![tactic(auto)]
 

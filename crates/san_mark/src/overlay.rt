@@ -1,6 +1,7 @@
 //! An overlay and its calls.
 
-ghost use Rattle.std.specs.Prelude.{◌≡◌, ◌≤◌, ◌<◌, length, replicate, slice_index_or, slice_set, IfOk, IfSome, Some, None};
+ghost use Rattle.std.specs.Prelude.{◌≡◌, ◌≤◌, ◌<◌, length, replicate, slice_index_or, slice_set, IfOk, IfSome, Some, None, All};
+ghost use Rattle.san_mark.specs.Overlays.{IsSmall};
 
 use san_base::{MAX_TOKENS, NoMemory};
 use std::alloc::Global;
@@ -32,6 +33,14 @@ fn unset(alloc: Global, cells: usize) -> Result<Vec<Option<u32>>, NoMemory>
 }
 
 impl Overlay {
+    /// An overlay of these values.
+    pub fn of(cells: Vec<Option<u32>>) -> Overlay
+        requires { All IsSmall cells.items }
+        ensures { result ≡ cells.items }
+    {
+        Overlay { cells }
+    }
+
     /// An overlay of so many cells, none of which is set.
     pub fn new(alloc: Global, cells: u32) -> Result<Overlay, NoMemory>
         ensures { IfOk result (λ o. o ≡ replicate cells None) }
@@ -48,6 +57,14 @@ impl Overlay {
         ensures small { IfSome result (λ v. v ≤ MAX_TOKENS) }
     {
         self.cells[cell as usize]
+    }
+
+    /// What was set, cell by cell.
+    pub fn as_slice(&self) -> &[Option<u32>]
+        ensures value { result.now ≡ self.now }
+        ensures small { All IsSmall result.now }
+    {
+        &self.cells
     }
 
     /// Sets a cell's value.

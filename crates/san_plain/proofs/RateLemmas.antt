@@ -18,7 +18,8 @@ use Rattle.san_reward.specs.Running.{Running, rates_in, rates_of, terms_in, with
 use Rattle.san_reward.proofs.RatesSet.{rates_there}
 use Rattle.san_reward.proofs.Setting.{leaves_long, rates_long}
 use Rattle.san_plain.specs.inner.Rates.{AreNew, Follows, FollowsAt, FollowsPlace, FollowsPlaces, rates_at}
-use Rattle.san_seq.proofs.TouchLemmas.{imported, taken_more}
+use Rattle.san_seq.proofs.TouchLemmas.{taken_more}
+use Rattle.san_plain.proofs.ImporterLemmas.{imported}
 
 pub same_of : {X : Type 0} (o : Option X) (x y : X) → o ≡ Some x → o ≡ Some y → x ≡ y
 same_of o x y a b = cc

@@ -1,5 +1,6 @@
-pub mod SmallLemmas
+pub mod HolderLemmas
 pub mod OpeningLemmas
-pub mod WatchLemmas
 pub mod ProgressLemmas
+pub mod SmallLemmas
 pub mod TurnLemmas
+pub mod WatchLemmas

@@ -10,7 +10,7 @@ use Rattle.san_net.specs.Laid.{IsNetwork}
 use Rattle.san_net.specs.Network.{Network}
 use Rattle.san_net.specs.Tables.{importers_of}
 use Rattle.san_net.proofs.TableLemmas.{got_at}
-use Rattle.san_seq.proofs.TouchLemmas.{Has, has_some, imported_some}
+use Rattle.san_probe.proofs.HolderLemmas.{Has, has_some, imported_some}
 
 small_at : (xs : List ℕ) (i v : ℕ) → All (λ x. x ≤ 2147483647) xs → slice_get xs i ≡ Some v → v ≤ 2147483647
 small_at xs i v all is =

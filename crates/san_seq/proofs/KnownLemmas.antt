@@ -1,56 +1,68 @@
--- Leaves that aren't stale stay idle through a step.
+-- What has no flag up stays idle through a step.
 use Rattle.std.proofs.Common.{replicate, ℕ, zero, suc, ◌+◌, ◌<◌, ◌≡◌, ◌≢◌, ◌∙◌, ◌⊎◌, inl, inr, ap, sym, refl, subst, arith, List, [], ◌∷◌, length, Option, Some, None, Result, Ok, Err, IfOk, Bool, true, false, slice_index, slice_set, nat_eq}
-use Rattle.std.specs.Prelude.{slice_get}
+use Rattle.std.specs.Prelude.{slice_get, IsTrue}
 use Rattle.std.proofs.lemmas.Bool.{eqb-true}
 use Rattle.std.proofs.lemmas.List.{get_or-set_other}
 use Rattle.std.proofs.lemmas.Option.{slice_get_within}
 use Rattle.san_base.specs.declared.ending.Trap.{Trap}
 use Rattle.san_law.proofs.Places.{scatter_at, scatter_length}
+use Rattle.san_law.proofs.Renewals.{quiet_is_steady, steady_is_quiet}
+use Rattle.san_law.specs.Activity as leaf
 use Rattle.san_law.specs.Lawful.{AllBelow, IsLaid, IsLawful}
-use Rattle.san_law.specs.Net.{Done, Faulty, Fresh, Found, Net, Nothing, Renewing, Row, no_row, without_timer}
+use Rattle.san_law.specs.Net.{Done, Faulty, Fresh, Found, Local, Net, Nothing, Renewing, Row, no_row, without_timer}
 use Rattle.san_law.specs.Network.{Limits as Bounds}
 use Rattle.san_law.specs.Next.{Next, Stable, found_at}
 use Rattle.san_law.specs.Renewal.{AllFresh, Due, FaultAt, Renewal, and_rest, renewed_at, renewed_from, renewed_then}
 use Rattle.san_law.specs.State.{State, gather, index_of, local_of, or_next, scatter, slots_of, taken_from}
 use Rattle.san_law.specs.Step as law
 use Rattle.san_net.specs.Laid.{places_of}
-use Rattle.san_net.specs.Leaf.{first_in, leaf_of}
+use Rattle.san_net.specs.Leaf.{leaf_of}
 use Rattle.san_net.specs.Network.{Network, net_of}
 use Rattle.san_net.specs.declared.part.Part.{Part}
-use Rattle.san_law.specs.Clocks.{renewed_row}
-use Rattle.san_seq.specs.inner.Known.{AreFresh, AreIdle, AreQuiet, AreSettled, HaveNothing, HaveSame, IsIdle, TouchedAll}
+use Rattle.san_law.specs.Clocks.{renewed_row, some_pair}
+use Rattle.san_seq.specs.declared.stale.Stale.{Stale}
+use Rattle.san_seq.specs.inner.Known.{AreFresh, AreIdle, AreQuiet, AreSettled, AreTouched, HasFlags, HaveSame, IsAtRest}
 use Rattle.san_seq.specs.inner.Nexts.{first_by, first_from, first_of_part, next_among}
 use Rattle.san_seq.specs.inner.States.{instant_in}
+use Rattle.san_seq.specs.inner.Wakes.{AreWoken, Woken, concerned}
 use Rattle.san_seq.specs.Outcomes.{event_or_ending}
 use Rattle.san_seq.specs.inner.Renewals.{renewed_part}
 use Rattle.san_seq.specs.inner.Rows.{row_at}
 use Rattle.san_base.specs.declared.ending.Ending.{Ending}
 use Rattle.san_base.specs.declared.ending.Event.{Event}
+use Rattle.san_seq.proofs.AlikeLemmas.{pair_all, rest_alike}
 use Rattle.san_seq.proofs.AnswerLemmas.{Happening, happened, happening_by}
 use Rattle.san_seq.proofs.NextLemmas.{cut}
-use Rattle.san_net.proofs.PartLemmas.{lies_over, places_are}
-use Rattle.san_seq.proofs.RowLemmas.{part_renewed}
-use Rattle.san_seq.proofs.TouchLemmas.{gather_at}
 use Rattle.san_net.proofs.CellLemmas.{gather_eq}
+use Rattle.san_net.proofs.PartLemmas.{lies_over, part_is, places_are}
+use Rattle.san_seq.proofs.RowLemmas.{part_renewed}
 
 not_false : (o : Option Bool) → o ≡ Some true → o ≡ Some false → {A : Type 0} → A
 not_false o a b = cc
 
--- what the flags give
-pub have_nothing : (n : Network) (draw : ℕ → ℕ → ℕ) (stale : List Bool) (s : State) → AreIdle n draw stale s → HaveNothing n.parts stale s.marking
-have_nothing n draw stale s known j down = by_part (slice_get n.parts j) refl
+-- without a pair renewal doesn't look at what was seen
+unseen : (n : Network) (draw : ℕ → ℕ → ℕ) (bounds : Bounds) → IsLawful (net_of n draw bounds) → (j : ℕ) (p : Part) → slice_get n.parts j ≡ Some p → some_pair (leaf_of p).activities ≡ false
+    → (t : ℕ) (a b : List ℕ) (l : Local) → renewed_row draw (leaf_of p) t a l ≡ renewed_row draw (leaf_of p) t b l
+unseen n draw bounds ok j p is none t a b l =
+    subst (λ (q : leaf.Part). renewed_row draw q t a l ≡ renewed_row draw q t b l) (part_is n j p is) (ok.unpaired j t a b l (ap (λ (q : leaf.Part). some_pair q.activities) (part_is n j p is) ∙ none))
+
+pub are_fresh : (n : Network) (draw : ℕ → ℕ → ℕ) (bounds : Bounds) (w : Woken) (stale : Stale) (s : State) → IsLawful (net_of n draw bounds) → AreIdle n w stale s
+    → AreFresh draw n.parts stale.timers s.time s.stable s.marking s.rows
+are_fresh n draw bounds w stale s ok known j p down is = by_pair (some_pair (leaf_of p).activities) refl
   where
-    by_part : (o : Option Part) → slice_get n.parts j ≡ o → first_by s.marking (slice_get n.parts j) ≡ Nothing
-    by_part None is = ap (first_by s.marking) is
-    by_part (Some p) is = ap (first_by s.marking) is ∙ (known.idle j p is down).nothing
+    rest : IsAtRest p s.stable s.marking (row_at s.rows j)
+    rest = known.timers j p is down
 
-pub have_same : (n : Network) (draw : ℕ → ℕ → ℕ) (stale : List Bool) (s : State) → AreIdle n draw stale s → HaveSame n.parts stale s.stable s.marking
-have_same n draw stale s known j p is down = (known.idle j p is down).same
+    local : Local
+    local = record { values = gather (places_of p) s.marking; row = row_at s.rows j }
 
-pub are_fresh : (n : Network) (draw : ℕ → ℕ → ℕ) (stale : List Bool) (s : State) → AreIdle n draw stale s → AreFresh draw n.parts stale s.time s.stable s.marking s.rows
-are_fresh n draw stale s known j p down is =
-    let idle = known.idle j p is down in
-    ap (λ (seen : List ℕ). renewed_row draw (leaf_of p) s.time seen (record { values = gather (places_of p) s.marking; row = row_at s.rows j })) idle.same ∙ idle.quiet s.time
+    here : renewed_row draw (leaf_of p) s.time (gather (places_of p) s.marking) local ≡ Fresh (row_at s.rows j)
+    here = steady_is_quiet (leaf_of p) draw (gather (places_of p) s.marking) (row_at s.rows j) rest.steady s.time
+
+    by_pair : (b : Bool) → some_pair (leaf_of p).activities ≡ b → renewed_part draw p s.time s.stable s.marking (row_at s.rows j) ≡ Fresh (row_at s.rows j)
+    by_pair true e =
+        ap (λ (seen : List ℕ). renewed_row draw (leaf_of p) s.time seen local) (gather_eq (places_of p) s.stable s.marking (λ k q at. rest.same k q at (pair_all p.atomic.impulses 0 p.atomic.acts k e))) ∙ here
+    by_pair false e = unseen n draw bounds ok j p is e s.time (gather (places_of p) s.stable) (gather (places_of p) s.marking) local ∙ here
 
 -- where nothing comes next, no leaf has anything
 nothing_by : (j : ℕ) (f : Found) (rest : Next) → found_at j f rest ≡ Stable → (f ≡ Nothing) × (rest ≡ Stable)
@@ -99,8 +111,8 @@ each_fresh net s i (r ∷ rs) = each_then net s i r rs (renewed_at net s i r) (r
 
 -- all leaves are quiet after a renewal
 pub quiet_after : (n : Network) (draw : ℕ → ℕ → ℕ) (bounds : Bounds) → IsLawful (net_of n draw bounds) → (s : State) (fresh : List Row) → length s.rows ≡ length n.parts
-    → renewed_from (net_of n draw bounds) s 0 s.rows ≡ AllFresh fresh → AreSettled n.parts s.marking → AreQuiet draw n.parts s.marking fresh
-quiet_after n draw bounds ok s fresh sized renewed nothing j p is = (nothing j p is, quiet)
+    → renewed_from (net_of n draw bounds) s 0 s.rows ≡ AllFresh fresh → AreSettled n.parts s.marking → AreQuiet n.parts s.marking fresh
+quiet_after n draw bounds ok s fresh sized renewed nothing j p is = (nothing j p is, quiet_is_steady (leaf_of p) draw (gather (places_of p) s.marking) (gather (places_of p) s.marking) (row_at fresh j) 0 (quiet 0))
   where
     net : Net
     net = net_of n draw bounds
@@ -180,41 +192,61 @@ same_or_own slots values m q h = by_place (index_of q slots) refl
     by_place None is = inl (scatter_at slots values m q h ∙ ap (λ (x : Option ℕ). taken_from values x (slice_index m q)) is)
     by_place (Some i) is = inr (i, found_place q slots i is)
 
--- a leaf that keeps its values stays idle
-idle_moved : (draw : ℕ → ℕ → ℕ) (p : Part) (stable m now : List ℕ) (r : Row) → first_of_part m p ≡ Nothing → ((t : ℕ) → renewed_part draw p t m m r ≡ Fresh r)
-    → gather (places_of p) m ≡ gather (places_of p) now → gather (places_of p) stable ≡ gather (places_of p) now → IsIdle draw p stable now r
-idle_moved draw p stable m now r nothing quiet values same = record {
-  same = same;
-  nothing = ap (first_in p.atomic) (sym values) ∙ nothing;
-  quiet = λ t. ap (λ (v : List ℕ). renewed_row draw (leaf_of p) t v (record { values = v; row = r })) (sym values) ∙ quiet t;
-}
+-- after a completion the flags that are still down say the same of what it left
+module _ (n : Network) (draw : ℕ → ℕ → ℕ) (bounds : Bounds) (w : Woken) (j : ℕ) (part : Part) (u v : State) (old new : Stale) (is : slice_get n.parts j ≡ Some part)
+    (long : length u.marking ≡ length n.initial)
+    (within : (i : ℕ) (p : Part) (k q : ℕ) → slice_get n.parts i ≡ Some p → slice_get (places_of p) k ≡ Some q → q < length u.marking)
+    (moved : Moved (net_of n draw bounds) j u v) (woken : AreWoken n w) (flags : HasFlags n old) (touched : AreTouched w (places_of part) v.stable v.marking old new) where
+  marking_is : v.marking ≡ scatter (places_of part) moved.values u.marking
+  marking_is = moved.marking ∙ ap (λ (ss : List ℕ). scatter ss moved.values u.marking) (places_are n j part is draw bounds)
 
--- a completed leaf is stale with all those that have a place which isn't as it was; the others stay idle
-pub idle_after : (n : Network) (draw : ℕ → ℕ → ℕ) (bounds : Bounds) (j : ℕ) (part : Part) (u v : State) (old new : List Bool) → slice_get n.parts j ≡ Some part
-    → ((i : ℕ) (p : Part) (k q : ℕ) → slice_get n.parts i ≡ Some p → slice_get (places_of p) k ≡ Some q → q < length u.marking)
-    → Moved (net_of n draw bounds) j u v → TouchedAll n (places_of part) v.stable v.marking old new → slice_get new j ≡ Some true → length old ≡ length n.parts
-    → ((i : ℕ) (p : Part) → i ≢ j → slice_get n.parts i ≡ Some p → slice_get new i ≡ Some false → IsIdle draw p u.stable u.marking (row_at u.rows i))
-    → AreIdle n draw new v
-idle_after n draw bounds j part u v old new is within moved touched own long known = record { sized = touched.sized ∙ long; idle = each }
-  where
-    other : (i : ℕ) → slice_get new i ≡ Some false → i ≢ j
-    other i down e = not_false (slice_get new j) own (ap (slice_get new) (sym e) ∙ down)
+  -- a place that was the same is so still, unless it is one of the leaf's
+  still_same : (q : ℕ) → q < length u.marking → slice_index u.stable q ≡ slice_index u.marking q → ((l : ℕ) → slice_get (places_of part) l ≡ Some q → slice_index v.stable q ≡ slice_index v.marking q) → slice_index v.stable q ≡ slice_index v.marking q
+  still_same q h was own = by_case (same_or_own (places_of part) moved.values u.marking q h)
+    where
+      by_case : (slice_index (scatter (places_of part) moved.values u.marking) q ≡ slice_index u.marking q) ⊎ ((l : ℕ) × (slice_get (places_of part) l ≡ Some q)) → slice_index v.stable q ≡ slice_index v.marking q
+      by_case (inl f) = ap (λ (xs : List ℕ). slice_index xs q) moved.stable ∙ was ∙ sym f ∙ sym (ap (λ (xs : List ℕ). slice_index xs q) marking_is)
+      by_case (inr f) = own f.0 f.1
 
-    each : (i : ℕ) (p : Part) → slice_get n.parts i ≡ Some p → slice_get new i ≡ Some false → IsIdle draw p v.stable v.marking (row_at v.rows i)
-    each i p at down =
-        let was = known i p (other i down) at down in
-        let places : slots_of (net_of n draw bounds) j ≡ places_of part = places_are n j part is draw bounds in
-        let marking : v.marking ≡ scatter (places_of part) moved.values u.marking = moved.marking ∙ ap (λ (ss : List ℕ). scatter ss moved.values u.marking) places in
-        let same = gather_eq (places_of p) v.stable v.marking (λ k q e. one_place k q e was marking (same_or_own (places_of part) moved.values u.marking q (within i p k q at e))) in
-        let row : row_at v.rows i ≡ row_at u.rows i = ap (λ (rs : List Row). row_at rs i) moved.rows ∙ get_or-set_other u.rows j i moved.row no_row (other i down) in
-        subst (IsIdle draw p v.stable v.marking) (sym row)
-        (idle_moved draw p v.stable u.marking v.marking (row_at u.rows i) was.nothing was.quiet (sym was.same ∙ ap (gather (places_of p)) (sym moved.stable) ∙ same) same)
-      where
-        one_place : (k q : ℕ) → slice_get (places_of p) k ≡ Some q → IsIdle draw p u.stable u.marking (row_at u.rows i) → v.marking ≡ scatter (places_of part) moved.values u.marking
-            → (slice_index (scatter (places_of part) moved.values u.marking) q ≡ slice_index u.marking q) ⊎ ((l : ℕ) × (slice_get (places_of part) l ≡ Some q)) → slice_index v.stable q ≡ slice_index v.marking q
-        one_place k q e was marking (inl f) =
-            ap (λ (xs : List ℕ). slice_index xs q) moved.stable ∙ gather_at (places_of p) u.stable u.marking k q was.same e ∙ sym f ∙ sym (ap (λ (xs : List ℕ). slice_index xs q) marking)
-        one_place k q e was marking (inr f) = touched.equal f.0 i k q p f.1 at down e
+  -- what was the same before and after was so in between
+  stays : (q : ℕ) → slice_index u.stable q ≡ slice_index u.marking q → slice_index v.stable q ≡ slice_index v.marking q → slice_index u.marking q ≡ slice_index v.marking q
+  stays q a b = sym a ∙ ap (λ (xs : List ℕ). slice_index xs q) (sym moved.stable) ∙ b
+
+  places_after : HaveSame old.places u.stable u.marking → HaveSame new.places v.stable v.marking
+  places_after known q down =
+      let h : q < length u.marking = omega (arith, slice_get_within new.places q false down, touched.places.sized, flags.places, long) in
+      still_same q h (known q (touched.places.kept q down)) (λ l f. touched.places.equal l q q f down refl)
+
+  timers_after : slice_get new.timers j ≡ Some true → ((i : ℕ) (p : Part) → i ≢ j → slice_get n.parts i ≡ Some p → slice_get old.timers i ≡ Some false → IsAtRest p u.stable u.marking (row_at u.rows i))
+      → (i : ℕ) (p : Part) → slice_get n.parts i ≡ Some p → slice_get new.timers i ≡ Some false → IsAtRest p v.stable v.marking (row_at v.rows i)
+  timers_after own known i p at down = subst (IsAtRest p v.stable v.marking) (sym row) (record {
+    steady = rest_alike p u.marking v.marking (row_at u.rows i) (λ c q e t. stays q (was.same c q e t) (same c q e t)) was.steady;
+    same = same;
+  })
+    where
+      other : i ≢ j
+      other e = not_false (slice_get new.timers j) own (ap (slice_get new.timers) (sym e) ∙ down)
+
+      was : IsAtRest p u.stable u.marking (row_at u.rows i)
+      was = known i p other at (touched.timers.kept i down)
+
+      same : (c q : ℕ) → slice_get (places_of p) c ≡ Some q → IsTrue (concerned Rattle.san_seq.specs.declared.concern.Concern.TheVariants.Timers p.atomic.acts c) → slice_index v.stable q ≡ slice_index v.marking q
+      same c q e t = still_same q (within i p c q at e) (was.same c q e t) (λ l f. touched.timers.equal l i q f down (woken.timers.there i c q p (slice_get_within n.parts i p at) at e t))
+
+      row : row_at v.rows i ≡ row_at u.rows i
+      row = ap (λ (rs : List Row). row_at rs i) moved.rows ∙ get_or-set_other u.rows j i moved.row no_row other
+
+  pub idle_after : slice_get new.timers j ≡ Some true → HaveSame old.places u.stable u.marking
+      → (old.settled ≡ true → AreSettled n.parts u.stable)
+      → ((i : ℕ) (p : Part) → i ≢ j → slice_get n.parts i ≡ Some p → slice_get old.timers i ≡ Some false → IsAtRest p u.stable u.marking (row_at u.rows i))
+      → AreIdle n w new v
+  idle_after own places settled timers = record {
+    woken = woken;
+    flags = record { timers = touched.timers.sized ∙ flags.timers; places = touched.places.sized ∙ flags.places };
+    places = places_after places;
+    settled = λ e. subst (AreSettled n.parts) (sym moved.stable) (settled (sym touched.settled ∙ e));
+    timers = timers_after own timers;
+  }
 
 -- before the first step all leaves are stale
 all_up : (many j : ℕ) → (let xs : List Bool = replicate many true in slice_get xs j) ≡ Some false → {A : Type 0} → A
@@ -226,10 +258,17 @@ length_replicate : {A : Type 0} (k : ℕ) (a : A) → length (replicate k a) ≡
 length_replicate zero a = refl
 length_replicate (suc k) a = ap suc (length_replicate k a)
 
-pub all_are_stale : (n : Network) (draw : ℕ → ℕ → ℕ) (stale : List Bool) (s : State) → stale ≡ replicate (length n.parts) true → AreIdle n draw stale s
-all_are_stale n draw stale s is = record {
-  sized = ap length is ∙ length_replicate (length n.parts) true;
-  idle = λ j p at down. all_up (length n.parts) j (ap (λ (xs : List Bool). slice_get xs j) (sym is) ∙ down);
+both : (b : Bool) → b ≡ true → b ≡ false → {A : Type 0} → A
+both b e f = cc
+
+pub all_are_stale : (n : Network) (w : Woken) (stale : Stale) (s : State) → AreWoken n w → stale.settled ≡ false → stale.timers ≡ replicate (length n.parts) true → stale.places ≡ replicate (length n.initial) true
+    → AreIdle n w stale s
+all_are_stale n w stale s woken a b c = record {
+  woken = woken;
+  flags = record { timers = ap length b ∙ length_replicate (length n.parts) true; places = ap length c ∙ length_replicate (length n.initial) true };
+  places = λ q down. all_up (length n.initial) q (ap (λ (xs : List Bool). slice_get xs q) (sym c) ∙ down);
+  settled = λ e. both stale.settled e a;
+  timers = λ j p at down. all_up (length n.parts) j (ap (λ (xs : List Bool). slice_get xs j) (sym b) ∙ down);
 }
 
 all_below_at : (xs : List ℕ) (n k q : ℕ) → AllBelow xs n → slice_get xs k ≡ Some q → q < n
@@ -241,7 +280,7 @@ all_below_at (x ∷ xs) n zero q b e = subst (λ (y : ℕ). y < n) (one x q e) b
 all_below_at (x ∷ xs) n (suc k) q b e = all_below_at xs n k q b.1 e
 
 -- each place of a leaf is one of the marking
-places_within : (n : Network) (m : List ℕ) → length m ≡ length n.initial → ((draw : ℕ → ℕ → ℕ) (bounds : Bounds) → IsLaid (net_of n draw bounds) (length n.initial))
+pub places_within : (n : Network) (m : List ℕ) → length m ≡ length n.initial → ((draw : ℕ → ℕ → ℕ) (bounds : Bounds) → IsLaid (net_of n draw bounds) (length n.initial))
     → (i : ℕ) (p : Part) (k q : ℕ) → slice_get n.parts i ≡ Some p → slice_get (places_of p) k ≡ Some q → q < length m
 places_within n m sized lies i p k q is at = all_below_at (places_of p) (length m) k q (lies_over n i p is m sized lies).within at
 
@@ -251,34 +290,35 @@ if_answered (Ok e) n x P is h = let got = happened n x e (sym is) in h got.0 got
 if_answered (Err e) n x P is h = tt
 
 -- flags over markings that are these
-touched_over : (n : Network) (places stable m a b : List ℕ) (old new : List Bool) → a ≡ stable → b ≡ m → TouchedAll n places a b old new → TouchedAll n places stable m old new
-touched_over n places stable m a b old new e f so =
-    subst (λ (x : List ℕ). TouchedAll n places x m old new) e (subst (λ (y : List ℕ). TouchedAll n places a y old new) f so)
+touched_over : (w : Woken) (places stable m a b : List ℕ) (old new : Stale) → a ≡ stable → b ≡ m → AreTouched w places a b old new → AreTouched w places stable m old new
+touched_over w places stable m a b old new e f so =
+    subst (λ (x : List ℕ). AreTouched w places x m old new) e (subst (λ (y : List ℕ). AreTouched w places a y old new) f so)
 
-module _ (n : Network) (draw : ℕ → ℕ → ℕ) (bounds : Bounds) (lies : (d : ℕ → ℕ → ℕ) (b : Bounds) → IsLaid (net_of n d b) (length n.initial)) (j k : ℕ) (h : j < length n.parts) (v : State) (a b : List ℕ) (old new : List Bool)
-    (at_a : a ≡ v.stable) (at_b : b ≡ v.marking) (long : length old ≡ length n.parts) (own : slice_get new j ≡ Some true)
-    (touched : (p : Part) → slice_get n.parts j ≡ Some p → TouchedAll n (places_of p) a b old new) where
-  pub timed_known : (s : State) (d : Due) (u : State) (t : Happening) → d.leaf ≡ j → length s.marking ≡ length n.initial → u ≡ law.fired (net_of n draw bounds) s s.rows d → AreQuiet draw n.parts s.marking s.rows
-      → v ≡ (law.fire (net_of n draw bounds) u j k).1 → happening_by (law.fire (net_of n draw bounds) u j k).0 ≡ Ok t → AreIdle n draw new v
+module _ (n : Network) (draw : ℕ → ℕ → ℕ) (bounds : Bounds) (w : Woken) (lies : (d : ℕ → ℕ → ℕ) (b : Bounds) → IsLaid (net_of n d b) (length n.initial)) (j k : ℕ) (h : j < length n.parts) (v : State) (a b : List ℕ) (old new : Stale)
+    (at_a : a ≡ v.stable) (at_b : b ≡ v.marking) (woken : AreWoken n w) (flags : HasFlags n old) (own : slice_get new.timers j ≡ Some true)
+    (touched : (p : Part) → slice_get n.parts j ≡ Some p → AreTouched w (places_of p) a b old new) where
+  pub timed_known : (s : State) (d : Due) (u : State) (t : Happening) → d.leaf ≡ j → length s.marking ≡ length n.initial → u ≡ law.fired (net_of n draw bounds) s s.rows d → AreQuiet n.parts s.marking s.rows
+      → v ≡ (law.fire (net_of n draw bounds) u j k).1 → happening_by (law.fire (net_of n draw bounds) u j k).0 ≡ Ok t → AreIdle n w new v
   timed_known s d u t leaf sized is quiet left answered =
       let net = net_of n draw bounds in
       let part = cut n.parts j h in
       let moved_u : Moved net j u v = subst (Moved net j u) (sym left) (fire_moved net u j k t answered) in
       let moved : Moved net j (law.fired net s s.rows d) v = subst (λ (x : State). Moved net j x v) is moved_u in
-      idle_after n draw bounds j part.0 (law.fired net s s.rows d) v old new part.1 (places_within n s.marking sized lies) moved
-      (touched_over n (places_of part.0) v.stable v.marking a b old new at_a at_b (touched part.0 part.1)) own long
+      idle_after n draw bounds w j part.0 (law.fired net s s.rows d) v old new part.1 sized (places_within n s.marking sized lies) moved woken flags
+      (touched_over w (places_of part.0) v.stable v.marking a b old new at_a at_b (touched part.0 part.1)) own
+      (λ q down. refl)
+      (λ e i p at. (quiet i p at).0)
       (λ i p other at down.
-      let q = quiet i p at in
       let row : row_at (slice_set s.rows d.leaf (without_timer (row_at s.rows d.leaf) d.act)) i ≡ row_at s.rows i = get_or-set_other s.rows d.leaf i (without_timer (row_at s.rows d.leaf) d.act) no_row (λ e. other (e ∙ leaf)) in
-      subst (IsIdle draw p s.marking s.marking) (sym row) (record { same = refl; nothing = q.0; quiet = q.1 }))
+      subst (IsAtRest p s.marking s.marking) (sym row) (record { steady = (quiet i p at).1; same = λ c q e f. refl }))
 
-  pub instant_known : (s u : State) (t : Happening) → length s.marking ≡ length n.initial → u ≡ s → AreIdle n draw old s
-      → v ≡ (instant_in n draw bounds u j k).1 → happening_by (instant_in n draw bounds u j k).0 ≡ Ok t → AreIdle n draw new v
+  pub instant_known : (s u : State) (t : Happening) → length s.marking ≡ length n.initial → u ≡ s → AreIdle n w old s
+      → v ≡ (instant_in n draw bounds u j k).1 → happening_by (instant_in n draw bounds u j k).0 ≡ Ok t → AreIdle n w new v
   instant_known s u t sized is known left answered =
       let net = net_of n draw bounds in
       let part = cut n.parts j h in
       let moved_u : Moved net j u v = subst (Moved net j u) (sym left) (instant_moved n draw bounds u j k t answered) in
       let moved : Moved net j s v = subst (λ (x : State). Moved net j x v) is moved_u in
-      let over = touched_over n (places_of part.0) v.stable v.marking a b old new at_a at_b (touched part.0 part.1) in
-      idle_after n draw bounds j part.0 s v old new part.1 (places_within n s.marking sized lies) moved over own long
-      (λ i p other at down. known.idle i p at (over.kept i down))
+      idle_after n draw bounds w j part.0 s v old new part.1 sized (places_within n s.marking sized lies) moved woken flags
+      (touched_over w (places_of part.0) v.stable v.marking a b old new at_a at_b (touched part.0 part.1)) own
+      known.places known.settled (λ i p other at down. known.timers i p at down)

@@ -1,3 +1,4 @@
+pub mod AlikeLemmas
 pub mod AnswerLemmas
 pub mod CompletionLemmas
 pub mod DueLemmas
@@ -8,14 +9,16 @@ pub mod NextLaws
 pub mod NextLemmas
 pub mod OpenLemmas
 pub mod OpeningLemmas
+pub mod PublicAnswers
 pub mod RangeLemmas
 pub mod ReachLemmas
 pub mod RowLemmas
 pub mod RunLemmas
 pub mod RunningLemmas
+pub mod SearchLemmas
 pub mod StateLemmas
 pub mod SteppingLemmas
-pub mod PublicAnswers
 pub mod TouchLemmas
 pub mod ViewLemmas
+pub mod WakeLemmas
 pub mod WithinLemmas

@@ -1,5 +1,6 @@
 pub mod Completions
 pub mod Dues
+pub mod Firsts
 pub mod Held
 pub mod Known
 pub mod Nexts
@@ -9,3 +10,4 @@ pub mod Rows
 pub mod Running
 pub mod States
 pub mod Views
+pub mod Wakes

@@ -1,7 +1,18 @@
 //! The sequential run of a model: one step at a time, or the whole trajectory.
+//!
+//! What a step costs, with n leaves in the network:
+//!
+//! | Part of it | Costs |
+//! |---|---|
+//! | the next instantaneous activity | a test of the leaf that completed last, and for each place that has another value than at the last stable point one of each leaf that hangs on it, up to the first that has something; before the first timer fires, a test of each leaf |
+//! | renewal | that of each leaf whose timers hang on such a place |
+//! | the timer that is due first | looked up; log n for each leaf whose least timer has changed |
+//! | the last stable marking | log of the places for each place that has changed |
+//! | a completion | a copy of its leaf's cells, and log n for each leaf whose timers hang on a cell that has changed |
 #![tactic(auto)]
 
 mod completion;
+mod concern;
 mod fire;
 mod laws;
 mod next;
@@ -12,6 +23,7 @@ mod stale;
 mod state;
 mod step;
 mod steps;
+mod wakes;
 
 pub use laws::{
     a_run_comes_to_its_end, events_are_the_first, events_are_the_laws, events_come_in_time,

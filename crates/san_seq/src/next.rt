@@ -1,6 +1,6 @@
 //! Which instantaneous activity completes next.
 
-ghost use Rattle.std.specs.Prelude.{◌≡◌, ◌<◌, length, Ok, map, slice_get, unwrap_or, IfSome};
+ghost use Rattle.std.specs.Prelude.{◌≡◌, ◌≤◌, ◌<◌, ◌⊎◌, ℕ, length, Ok, map, slice_get, slice_index, true, unwrap_or, IfSome, Some};
 ghost use Rattle.std.specs.Option.{option_map};
 ghost use Rattle.san_law.specs.Lawful.{AllBelow};
 ghost use Rattle.san_law.specs.Next as law;
@@ -8,10 +8,16 @@ ghost use Rattle.san_law.specs.State.{gather};
 ghost use Rattle.san_net.specs.Accepted.{IsAccepted};
 ghost use Rattle.san_net.specs.Laid.{places_of};
 ghost use Rattle.san_net.specs.Leaf.{found_by, first_in};
-ghost use Rattle.san_seq.specs.inner.Known.{HaveNothing};
+ghost use Rattle.san_law.specs.Net.{Nothing};
+ghost use Rattle.san_seq.specs.inner.Firsts.{AreEarlier, IsEarlier, IsFirst};
+ghost use Rattle.san_seq.specs.inner.Known.{AreSettled, HaveSame};
 ghost use Rattle.san_seq.specs.inner.Nexts.{first_by, first_from, next_among, next_in};
+ghost use Rattle.san_seq.specs.inner.Wakes.{AreWoken};
 
-use san_base::{LeafId, Trap};
+use crate::renewal::Markings;
+use crate::stale::Stale;
+use crate::wakes::Wakes;
+use san_base::{LeafId, PlaceId, Trap};
 use san_net::{FirstInstant, Flat, LeafCells, Part, first_instant};
 use san_winner::Flags;
 
@@ -61,48 +67,149 @@ fn first_at(flat: &Flat, leaf: LeafId, marking: &[u32]) -> Option<Next>
     found_at(leaf, first)
 }
 
-/// The first stale leaf's that has one, in order.
-fn first_of_all(flat: &Flat, stale: &Flags, marking: &[u32]) -> Next
-    requires flags { length stale.now ≡ length flat.now.parts }
-    requires idle { HaveNothing flat.now.parts stale.now marking.now }
+/// The first leaf that is known to have something, and what completes there. Where none is known, it
+/// is the number after all leaves, and nothing.
+#[derive(Clone, Copy, Debug, PartialEq, Eq)]
+pub(crate) struct First {
+    pub(crate) leaf: LeafId,
+    pub(crate) next: Next,
+}
+
+/// The first leaf's that has one, in order.
+fn first_of_all(flat: &Flat, marking: &[u32]) -> Next
     requires sized { length marking.now ≡ length flat.now.initial }
     ensures { next_in result ≡ first_from 0 marking.now flat.now.parts }
 {
-    let mut from = 0;
-    'leaves: while from < flat.leaves() as usize {
-        match stale.next(from) {
-            None => return Next::Stable,
-            Some(leaf) => {
-                if let Some(next) = first_at(flat, LeafId(leaf as u32), marking) {
-                    return next;
-                }
-                from = leaf + 1;
-            }
+    'leaves: for j in 0..flat.leaves() {
+        if let Some(next) = first_at(flat, LeafId(j), marking) {
+            return next;
         }
     }
     Next::Stable
+}
+
+/// The first of some leaves in order that has something, where it comes before the first so far.
+fn first_among(flat: &Flat, leaves: &[LeafId], first: First, marking: &[u32]) -> First
+    requires first { IsFirst flat.now.parts marking.now first }
+    requires within { (k : ℕ) (leaf : LeafId) → slice_get leaves.now k ≡ Some leaf
+        → leaf.0 < length flat.now.parts }
+    requires ordered { (i k : ℕ) (a b : LeafId) → i < k → slice_get leaves.now i ≡ Some a
+        → slice_get leaves.now k ≡ Some b → a.0 ≤ b.0 }
+    requires sized { length marking.now ≡ length flat.now.initial }
+    ensures first { IsFirst flat.now.parts marking.now result }
+    ensures sooner { result.leaf.0 ≤ first.leaf.0 }
+    ensures none { AreEarlier flat.now.parts marking.now leaves.now result.leaf.0 }
+{
+    'leaves: for k in 0..leaves.len() {
+        let leaf = leaves[k];
+        if leaf.0 >= first.leaf.0 {
+            return first;
+        }
+        if let Some(next) = first_at(flat, leaf, marking) {
+            return First { leaf, next };
+        }
+    }
+    first
+}
+
+/// The same of the leaves whose instantaneous activities hang on a place. They have nothing where it
+/// has the value of the last stable marking.
+fn first_of_place(
+    flat: &Flat,
+    wakes: &Wakes,
+    place: PlaceId,
+    first: First,
+    markings: &Markings<'_>,
+) -> First
+    requires first { IsFirst flat.now.parts markings.now.present.now first }
+    requires place { place.0 < length flat.now.initial }
+    requires woken { AreWoken flat.now wakes.now }
+    requires present { length markings.now.present.now ≡ length flat.now.initial }
+    requires stable { length markings.now.stable.now ≡ length flat.now.initial }
+    ensures first { IsFirst flat.now.parts markings.now.present.now result }
+    ensures sooner { result.leaf.0 ≤ first.leaf.0 }
+    ensures none { IsEarlier flat.now.parts wakes.now markings.now.stable.now
+        markings.now.present.now result.leaf.0 place.0 }
+{
+    let at = place.0 as usize;
+    if markings.stable[at] == markings.present[at] {
+        return first;
+    }
+    first_among(flat, wakes.instants(place), first, markings.present)
+}
+
+/// The first leaf's that has one, in order, where the last stable marking was one: only leaves that
+/// hang on a place with another value can have something.
+fn first_of_changed(flat: &Flat, wakes: &Wakes, places: &Flags, markings: &Markings<'_>) -> Next
+    requires settled { AreSettled flat.now.parts markings.now.stable.now }
+    requires same { HaveSame places.now markings.now.stable.now markings.now.present.now }
+    requires flags { length places.now ≡ length flat.now.initial }
+    requires woken { AreWoken flat.now wakes.now }
+    requires present { length markings.now.present.now ≡ length flat.now.initial }
+    requires stable { length markings.now.stable.now ≡ length flat.now.initial }
+    ensures { next_in result ≡ first_from 0 markings.now.present.now flat.now.parts }
+{
+    flat.is_network();
+    let mut first = First {
+        leaf: LeafId(flat.leaves()),
+        next: Next::Stable,
+    };
+    let mut from = 0;
+    'places: while from < flat.places() as usize {
+        match places.next(from) {
+            None => return first.next,
+            Some(at) => {
+                first = first_of_place(flat, wakes, PlaceId(at as u32), first, markings);
+                from = at + 1;
+            }
+        }
+    }
+    first.next
+}
+
+/// The first leaf's that has one, in order.
+fn first_in_order(flat: &Flat, wakes: &Wakes, stale: &Stale, markings: &Markings<'_>) -> Next
+    requires settled { stale.now.settled ≡ true → AreSettled flat.now.parts
+        markings.now.stable.now }
+    requires same { HaveSame stale.now.places markings.now.stable.now markings.now.present.now }
+    requires flags { length stale.now.places ≡ length flat.now.initial }
+    requires woken { AreWoken flat.now wakes.now }
+    requires present { length markings.now.present.now ≡ length flat.now.initial }
+    requires stable { length markings.now.stable.now ≡ length flat.now.initial }
+    ensures { next_in result ≡ first_from 0 markings.now.present.now flat.now.parts }
+{
+    if stale.settled {
+        first_of_changed(flat, wakes, &stale.places, markings)
+    } else {
+        first_of_all(flat, markings.present)
+    }
 }
 
 /// Which instantaneous activity completes next: the leaf that completed last is asked first, then
 /// the leaves in order (own rule).
 pub(crate) fn next_instant(
     flat: &Flat,
+    wakes: &Wakes,
     last: Option<LeafId>,
-    stale: &Flags,
-    marking: &[u32],
+    stale: &Stale,
+    markings: &Markings<'_>,
 ) -> Next
-    requires flags { length stale.now ≡ length flat.now.parts }
-    requires idle { HaveNothing flat.now.parts stale.now marking.now }
+    requires settled { stale.now.settled ≡ true → AreSettled flat.now.parts
+        markings.now.stable.now }
+    requires same { HaveSame stale.now.places markings.now.stable.now markings.now.present.now }
+    requires flags { length stale.now.places ≡ length flat.now.initial }
+    requires woken { AreWoken flat.now wakes.now }
     requires last { IfSome last (λ leaf. leaf.0 < length flat.now.parts) }
-    requires sized { length marking.now ≡ length flat.now.initial }
+    requires present { length markings.now.present.now ≡ length flat.now.initial }
+    requires stable { length markings.now.stable.now ≡ length flat.now.initial }
     ensures { next_in result
-        ≡ next_among flat.now.parts (option_map (λ leaf. leaf.0) last) marking.now }
+        ≡ next_among flat.now.parts (option_map (λ leaf. leaf.0) last) markings.now.present.now }
 {
     match last {
-        Some(leaf) => match first_at(flat, leaf, marking) {
+        Some(leaf) => match first_at(flat, leaf, markings.present) {
             Some(next) => next,
-            None => first_of_all(flat, stale, marking),
+            None => first_in_order(flat, wakes, stale, markings),
         },
-        None => first_of_all(flat, stale, marking),
+        None => first_in_order(flat, wakes, stale, markings),
     }
 }

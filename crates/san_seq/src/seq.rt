@@ -12,15 +12,16 @@ ghost use Rattle.san_seq.specs.inner.Nexts.{next_in};
 
 use crate::next::Next;
 use crate::rows::Rows;
+use crate::stale::Stale;
 use crate::state::State;
 use crate::step::{next_of, step};
 use crate::steps::{Stable, Stepped, Trajectory};
+use crate::wakes::Wakes;
 use san_base::{Ending, Event, Items, LeafId, Limits, NoMemory, Tick};
 use san_delay::DelayTables;
 use san_draw::Streams;
 use san_expr::Dist;
 use san_net::{ActKind, Flat};
-use san_winner::Flags;
 use std::alloc::Global;
 use std::marker::Model;
 
@@ -52,8 +53,10 @@ pub struct Seq<'a> {
     tables: DelayTables,
     streams: Streams,
     limits: Limits,
-    /// For each leaf whether it may have to be looked at in the next step.
-    stale: Flags,
+    /// Which leaves a change of a place concerns.
+    wakes: Wakes,
+    /// What may have to be looked at in the next step.
+    stale: Stale,
     /// Nothing while a step is taken.
     phase: Option<Phase>,
 }
@@ -70,31 +73,31 @@ impl<'a> Model for Seq<'a> {
 
     ghost view = { λ r. record { network = r.flat.now; seed = r.streams.seed; limits = r.limits; run_phase = run_phase_of r.phase } };
 
-    ghost invariant = { λ r. IsHeld r.flat.now r.limits r.streams.streams r.streams.seed
-        r.stale r.phase };
+    ghost invariant = { λ r. IsHeld r.flat.now r.limits r.streams.streams r.wakes r.stale r.phase };
 }
 
 /// What a step answers, and where the run is after it.
 fn stepped(
     flat: &Flat,
     tables: &DelayTables,
+    wakes: &Wakes,
     streams: &mut Streams,
     limits: &Limits,
-    stale: &mut Flags,
+    stale: &mut Stale,
     phase: Phase,
 ) -> (Result<Event, Ending>, Phase)
-    requires run { held.IsRun flat.now limits.now streams.old.streams streams.old.seed
-        stale.old (run.run_phase_in phase) }
+    requires run { held.IsRun flat.now limits.now streams.old.streams wakes.now stale.old
+        (run.run_phase_in phase) }
     ensures step { (result.0, run.run_phase_in result.1)
         ≡ run.stepped flat.now (net_of flat.now (draw_of streams.old.seed) (limits_in limits.now))
         (run.run_phase_in phase) }
-    ensures run { held.IsRun flat.now limits.now streams.old.streams streams.old.seed
-        stale.new (run.run_phase_in result.1) }
+    ensures run { held.IsRun flat.now limits.now streams.old.streams wakes.now stale.new
+        (run.run_phase_in result.1) }
     ensures streams { streams.new ≡ streams.old }
 {
     match phase {
         Phase::Running(state) => {
-            let (answer, left) = step(flat, tables, streams, limits, stale, state);
+            let (answer, left) = step(flat, tables, wakes, streams, limits, stale, state);
             match answer {
                 Ok(event) => (Ok(event), Phase::Running(left)),
                 Err(ending) => (Err(ending), Phase::Ended(left.marking, ending)),
@@ -118,14 +121,20 @@ fn where_stable(next: Next, state: &State) -> Option<Stable>
 }
 
 /// Where a phase of a run is stable.
-fn stable_at(flat: &Flat, stale: &Flags, limits: &Limits, phase: &Phase) -> Option<Stable>
-    requires { (streams seed : ℕ) × held.IsRun flat.now limits.now streams seed stale.now
+fn stable_at(
+    flat: &Flat,
+    wakes: &Wakes,
+    stale: &Stale,
+    limits: &Limits,
+    phase: &Phase,
+) -> Option<Stable>
+    requires { (streams : ℕ) × held.IsRun flat.now limits.now streams wakes.now stale.now
         (run.run_phase_in phase.now) }
     ensures { (draw : ℕ → ℕ → ℕ) → result
         ≡ run.stable_in (net_of flat.now draw (limits_in limits.now)) (run.run_phase_in phase.now) }
 {
     match phase {
-        Phase::Running(state) => where_stable(next_of(flat, stale, state), state),
+        Phase::Running(state) => where_stable(next_of(flat, wakes, stale, state), state),
         Phase::Ended(_, _) => None,
     }
 }
@@ -167,12 +176,14 @@ impl<'a> Seq<'a> {
             last: None,
             count: 0,
         };
-        let stale = Flags::open(alloc, flat.leaves() as usize)?;
+        let wakes = Wakes::open(alloc, flat)?;
+        let stale = Stale::open(alloc, flat)?;
         Ok(Seq {
             flat,
             tables,
             streams,
             limits,
+            wakes,
             stale,
             phase: Some(Phase::Running(state)),
         })
@@ -188,6 +199,7 @@ impl<'a> Seq<'a> {
                 let (answer, left) = stepped(
                     self.flat,
                     &self.tables,
+                    &self.wakes,
                     &mut self.streams,
                     &self.limits,
                     &mut self.stale,
@@ -217,7 +229,7 @@ impl<'a> Seq<'a> {
         ensures { result ≡ run.stable_of self.now }
     {
         match &self.phase {
-            Some(phase) => stable_at(self.flat, &self.stale, &self.limits, phase),
+            Some(phase) => stable_at(self.flat, &self.wakes, &self.stale, &self.limits, phase),
             None => unreachable!(),
         }
     }

@@ -1,88 +1,152 @@
-//! Which leaves may have to be looked at again.
+//! Which leaves may have to be looked at again, and which places have changed.
 
-ghost use Rattle.std.specs.Prelude.{◌≡◌, ◌<◌, ℕ, true, length, slice_get, Some};
+ghost use Rattle.std.specs.Prelude.{◌≡◌, ◌<◌, ◌∷◌, ℕ, [], true, false, length, replicate, slice_get, slice_index, Some, IfOk};
 ghost use Rattle.san_net.specs.Laid.{places_of};
 ghost use Rattle.san_net.specs.declared.part.Part.{Part};
-ghost use Rattle.san_seq.specs.inner.Known.{HaveSame, Raised, Touched, TouchedAll};
+ghost use Rattle.san_seq.specs.inner.Known.{AreTouched, HasFlags, HaveFlags, HaveSame, Raised};
+ghost use Rattle.san_seq.specs.inner.Wakes.{AreWoken};
 
-use san_base::{LeafId, PlaceId};
-use san_net::{Flat, copy_cells};
+use crate::wakes::Wakes;
+use san_base::{LeafId, NoMemory, PlaceId};
+use san_net::Flat;
 use san_winner::Flags;
+use std::alloc::Global;
+
+/// What may have to be looked at in the next step.
+#[derive(Drop)]
+pub(crate) struct Stale {
+    /// Whether the last stable marking was one; before the first timer fires it is the initial one,
+    /// in which something may be enabled at once.
+    pub(crate) settled: bool,
+    /// For each leaf whether one of its timers may have to be renewed.
+    pub(crate) timers: Flags,
+    /// For each place whether its value may differ from that at the last stable point.
+    pub(crate) places: Flags,
+}
+
+impl Stale {
+    /// All flags of a network, up.
+    pub(crate) fn open(alloc: Global, flat: &Flat) -> Result<Stale, NoMemory>
+        ensures settled { IfOk result (λ s. s.settled ≡ false) }
+        ensures timers { IfOk result (λ s. s.timers ≡ replicate (length flat.now.parts) true) }
+        ensures places { IfOk result (λ s. s.places ≡ replicate (length flat.now.initial) true) }
+    {
+        let timers = Flags::open(alloc, flat.leaves() as usize)?;
+        let places = Flags::open(alloc, flat.places() as usize)?;
+        Ok(Stale {
+            settled: false,
+            timers,
+            places,
+        })
+    }
+}
 
 /// The flags of these leaves go up.
-fn raise(stale: &mut Flags, leaves: &[LeafId])
+fn raise(flags: &mut Flags, leaves: &[LeafId])
     requires within { (k : ℕ) (leaf : LeafId) → slice_get leaves.now k ≡ Some leaf
-        → leaf.0 < length stale.old }
-    ensures { Raised leaves.now stale.old stale.new }
+        → leaf.0 < length flags.old }
+    ensures { Raised leaves.now flags.old flags.new }
 {
     'leaves: for k in 0..leaves.len() {
         let leaf = leaves[k].0;
-        stale.set(leaf as usize, true);
+        flags.set(leaf as usize, true);
     }
 }
 
-/// Where a place has another value than at the last stable point, all leaves that have it are
-/// stale.
-fn touch_place(flat: &Flat, place: PlaceId, stable: &[u32], marking: &[u32], stale: &mut Flags)
-    requires place { place.0 < length flat.now.initial }
-    requires stable { length stable.now ≡ length flat.now.initial }
-    requires marking { length marking.now ≡ length flat.now.initial }
-    requires flags { length stale.old ≡ length flat.now.parts }
-    ensures { Touched flat.now place.0 stable.now marking.now stale.old stale.new }
+/// Where a place has another value than at the last stable point, it and the timers of all leaves
+/// that this concerns are stale.
+fn touch_place(wakes: &Wakes, place: PlaceId, stable: &[u32], marking: &[u32], stale: &mut Stale)
+    requires flags { HaveFlags wakes.now stale.old }
+    requires place { place.0 < length stable.now }
+    requires stable { length stable.now ≡ length stale.old.places }
+    requires marking { length marking.now ≡ length stale.old.places }
+    ensures { AreTouched wakes.now (place.0 ∷ []) stable.now marking.now stale.old stale.new }
 {
-    flat.is_network();
-    if stable[place.0 as usize] != marking[place.0 as usize] {
-        raise(stale, flat.importers(place));
+    let at = place.0 as usize;
+    if stable[at] != marking[at] {
+        stale.places.set(at, true);
+        raise(&mut stale.timers, wakes.timers(place));
     }
 }
 
-/// A leaf that completed is stale, and so are those that have a place of it that has another value
-/// than at the last stable point.
-pub(crate) fn touch(flat: &Flat, leaf: LeafId, stable: &[u32], marking: &[u32], stale: &mut Flags)
+/// The timers of a leaf that completed are stale. So is each place of it that has another value than
+/// at the last stable point, with the timers of all leaves that this concerns.
+pub(crate) fn touch(
+    flat: &Flat,
+    wakes: &Wakes,
+    leaf: LeafId,
+    stable: &[u32],
+    marking: &[u32],
+    stale: &mut Stale,
+)
     requires leaf { leaf.0 < length flat.now.parts }
     requires stable { length stable.now ≡ length flat.now.initial }
     requires marking { length marking.now ≡ length flat.now.initial }
-    requires flags { length stale.old ≡ length flat.now.parts }
-    ensures touched { (p : Part) → slice_get flat.now.parts leaf.0 ≡ Some p → TouchedAll flat.now
+    requires woken { AreWoken flat.now wakes.now }
+    requires flags { HasFlags flat.now stale.old }
+    ensures touched { (p : Part) → slice_get flat.now.parts leaf.0 ≡ Some p → AreTouched wakes.now
         (places_of p) stable.now marking.now stale.old stale.new }
-    ensures own { slice_get stale.new leaf.0 ≡ Some true }
+    ensures own { slice_get stale.new.timers leaf.0 ≡ Some true }
 {
     flat.is_network();
     let slots = flat.part(leaf).get().slots.as_slice();
-    stale.set(leaf.0 as usize, true);
+    stale.timers.set(leaf.0 as usize, true);
     'cells: for k in 0..slots.len() {
-        touch_place(flat, slots[k].place(), stable, marking, stale);
+        touch_place(wakes, slots[k].place(), stable, marking, stale);
     }
 }
 
-/// The marking as the last stable one, in which stale leaves had other values. No leaf is stale
-/// any more.
-pub(crate) fn catch_up(
-    flat: &Flat,
-    stale: &mut Flags,
-    marking: &[u32],
-    stable: Vec<u32>,
-) -> Vec<u32>
-    requires flags { length stale.old ≡ length flat.now.parts }
-    requires marking { length marking.now ≡ length flat.now.initial }
-    requires stable { length stable.items ≡ length flat.now.initial }
-    requires same { HaveSame flat.now.parts stale.old stable.items marking.now }
+/// The marking as the last stable one, which differed in stale places. No place is stale any more.
+fn catch_up(places: &mut Flags, marking: &[u32], stable: Vec<u32>) -> Vec<u32>
+    requires flags { length places.old ≡ length marking.now }
+    requires stable { length stable.items ≡ length marking.now }
+    requires same { HaveSame places.old stable.items marking.now }
     ensures stable { result.items ≡ marking.now }
-    ensures flags { length stale.new ≡ length stale.old }
+    ensures flags { length places.new ≡ length places.old }
 {
-    flat.is_network();
     let mut stable = stable;
     let mut from = 0;
-    'leaves: while from < flat.leaves() as usize {
-        match stale.next(from) {
+    'places: while from < marking.len() {
+        match places.next(from) {
             None => return stable,
-            Some(j) => {
-                let slots = flat.part(LeafId(j as u32)).get().slots.as_slice();
-                copy_cells(slots, marking, &mut stable);
-                stale.set(j, false);
-                from = j + 1;
+            Some(at) => {
+                stable[at] = marking[at];
+                places.set(at, false);
+                from = at + 1;
             }
         }
     }
     stable
+}
+
+/// All of so many flags go down.
+fn lower(flags: &mut Flags, many: usize)
+    requires { length flags.old ≡ many }
+    ensures { length flags.new ≡ many }
+{
+    let mut from = 0;
+    'flags: while from < many {
+        match flags.next(from) {
+            None => return,
+            Some(at) => {
+                flags.set(at, false);
+                from = at + 1;
+            }
+        }
+    }
+}
+
+/// The marking as the last stable one, since nothing is enabled in it at once and all timers are as
+/// they are to be. Nothing is stale any more.
+pub(crate) fn settle(flat: &Flat, stale: &mut Stale, marking: &[u32], stable: Vec<u32>) -> Vec<u32>
+    requires flags { HasFlags flat.now stale.old }
+    requires marking { length marking.now ≡ length flat.now.initial }
+    requires stable { length stable.items ≡ length flat.now.initial }
+    requires same { HaveSame stale.old.places stable.items marking.now }
+    ensures stable { result.items ≡ marking.now }
+    ensures flags { HasFlags flat.now stale.new }
+{
+    stale.settled = true;
+    lower(&mut stale.timers, flat.leaves() as usize);
+    catch_up(&mut stale.places, marking, stable)
 }

@@ -13,18 +13,20 @@ ghost use Rattle.san_net.specs.Network.{net_of};
 ghost use Rattle.san_base.specs.Limits.{IsInRange};
 ghost use Rattle.san_base.specs.declared.limits.TheConstants.{MAX_TIME};
 ghost use Rattle.san_seq.specs.inner.Dues.{due_in};
-ghost use Rattle.san_seq.specs.inner.Known.{AreFresh, AreIdle, AreQuiet, AreSettled, HaveNothing, HaveSame};
+ghost use Rattle.san_seq.specs.inner.Known.{AreFresh, AreIdle, AreQuiet, AreSettled, HasFlags, HaveSame};
 ghost use Rattle.san_seq.specs.inner.Nexts.{next_in};
 ghost use Rattle.san_seq.specs.Overs.{limits_in};
 ghost use Rattle.san_seq.specs.inner.Rows.{AreDrawn, AreRows, IsLike, renewal_by, row_at};
 ghost use Rattle.san_seq.specs.inner.Running.{IsDrawn, IsRunning, Steps, with_rows};
+ghost use Rattle.san_seq.specs.inner.Wakes.{AreWoken};
 
 use crate::fire::fire;
 use crate::next::{Next, next_instant};
 use crate::renewal::{Markings, renew_rows};
 use crate::rows::Due;
-use crate::stale::touch;
+use crate::stale::{Stale, touch};
 use crate::state::{State, complete_instant, complete_timed, trapped};
+use crate::wakes::Wakes;
 use san_base::{Ending, Event, LeafId, Limits, Trap};
 use san_delay::DelayTables;
 use san_draw::Streams;
@@ -32,16 +34,20 @@ use san_net::Flat;
 use san_winner::Flags;
 
 /// Which instantaneous activity completes next in a state.
-pub(crate) fn next_of(flat: &Flat, stale: &Flags, state: &State) -> Next
-    requires flags { length stale.now ≡ length flat.now.parts }
-    requires idle { HaveNothing flat.now.parts stale.now state.now.marking }
+pub(crate) fn next_of(flat: &Flat, wakes: &Wakes, stale: &Stale, state: &State) -> Next
+    requires known { AreIdle flat.now wakes.now stale.now state.now }
     requires last { (j : ℕ) → state.now.last ≡ Some j → j < length flat.now.parts }
-    requires sized { length state.now.marking ≡ length flat.now.initial }
+    requires present { length state.now.marking ≡ length flat.now.initial }
+    requires stable { length state.now.stable ≡ length flat.now.initial }
     ensures { (draw : ℕ → ℕ → ℕ) (bounds : Bounds) → next_in result
         ≡ law.next_instant (net_of flat.now draw bounds) state.now }
 {
     flat.is_network();
-    next_instant(flat, state.last, stale, &state.marking)
+    let markings = Markings {
+        stable: state.stable.as_slice(),
+        present: state.marking.as_slice(),
+    };
+    next_instant(flat, wakes, state.last, stale, &markings)
 }
 
 /// The state with all timers renewed, or up to the first trap.
@@ -84,9 +90,10 @@ fn renew(
 /// The activity of a timer completes where it is due by the horizon, else the run ends there.
 fn at_due(
     flat: &Flat,
+    wakes: &Wakes,
     streams: &mut Streams,
     limits: &Limits,
-    stale: &mut Flags,
+    stale: &mut Stale,
     due: Due,
     state: State,
 ) -> (Result<Event, Ending>, State)
@@ -94,23 +101,23 @@ fn at_due(
     requires drawn { IsDrawn flat.now limits.now (state.count + 1) state }
     requires leaf { due.leaf.0 < length state.rows }
     requires act { due.act < length (row_at state.rows due.leaf.0).timers }
-    requires flags { length stale.old ≡ length flat.now.parts }
-    requires same { HaveSame flat.now.parts stale.old state.stable state.marking }
-    requires quiet { AreQuiet (draw_of streams.old.seed) flat.now.parts state.marking state.rows }
+    requires woken { AreWoken flat.now wakes.now }
+    requires flags { HasFlags flat.now stale.old }
+    requires same { HaveSame stale.old.places state.stable state.marking }
+    requires quiet { AreQuiet flat.now.parts state.marking state.rows }
     requires streams { 2 * acts_of flat.now.parts ≤ streams.old.streams }
     ensures steps { (s : law_state.State) → with_rows state.rows s ≡ state → Steps flat.now result.0 result.1
         (law_step.at_due (net_of flat.now (draw_of streams.old.seed) (limits_in limits.now)) s
         state.rows (Some (due_in due))) }
     ensures running { IfOk result.0 (λ e. IsRunning flat.now limits.now result.1) }
-    ensures known { IfOk result.0 (λ e. AreIdle flat.now (draw_of streams.old.seed) stale.new
-        result.1) }
+    ensures known { IfOk result.0 (λ e. AreIdle flat.now wakes.now stale.new result.1) }
     ensures streams { streams.new ≡ streams.old }
 {
     flat.is_network();
     if due.time <= limits.horizon.0 {
         let then = fire(flat, stale, due, state);
         let (answer, left) = complete_timed(flat, streams, limits, due.leaf, due.act, then);
-        touch(flat, due.leaf, &left.stable, &left.marking, stale);
+        touch(flat, wakes, due.leaf, &left.stable, &left.marking, stale);
         (answer, left)
     } else {
         (Err(Ending::End(limits.horizon)), state)
@@ -121,28 +128,28 @@ fn at_due(
 fn at_rest(
     flat: &Flat,
     tables: &DelayTables,
+    wakes: &Wakes,
     streams: &mut Streams,
     limits: &Limits,
-    stale: &mut Flags,
+    stale: &mut Stale,
     state: State,
 ) -> (Result<Event, Ending>, State)
     requires range { IsInRange limits.now }
     requires running { IsRunning flat.now limits.now state }
-    requires known { AreIdle flat.now (draw_of streams.old.seed) stale.old state }
+    requires known { AreIdle flat.now wakes.now stale.old state }
     requires settled { AreSettled flat.now.parts state.marking }
     requires streams { 2 * acts_of flat.now.parts ≤ streams.old.streams }
     ensures steps { Steps flat.now result.0 result.1 (law_step.at_next (net_of flat.now
         (draw_of streams.old.seed) (limits_in limits.now)) state law.Stable) }
     ensures running { IfOk result.0 (λ e. IsRunning flat.now limits.now result.1) }
-    ensures known { IfOk result.0 (λ e. AreIdle flat.now (draw_of streams.old.seed) stale.new
-        result.1) }
+    ensures known { IfOk result.0 (λ e. AreIdle flat.now wakes.now stale.new result.1) }
     ensures streams { streams.new ≡ streams.old }
 {
     flat.is_network();
-    let (done, left) = renew(flat, tables, streams, stale, state);
+    let (done, left) = renew(flat, tables, streams, &stale.timers, state);
     match done {
         Ok(()) => match left.rows.least() {
-            Some(due) => at_due(flat, streams, limits, stale, due, left),
+            Some(due) => at_due(flat, wakes, streams, limits, stale, due, left),
             None => (Err(Ending::End(limits.horizon)), left),
         },
         Err((leaf, act, trap)) => {
@@ -158,28 +165,28 @@ fn at_rest(
 pub(crate) fn step(
     flat: &Flat,
     tables: &DelayTables,
+    wakes: &Wakes,
     streams: &mut Streams,
     limits: &Limits,
-    stale: &mut Flags,
+    stale: &mut Stale,
     state: State,
 ) -> (Result<Event, Ending>, State)
     requires range { IsInRange limits.now }
     requires running { IsRunning flat.now limits.now state }
-    requires known { AreIdle flat.now (draw_of streams.old.seed) stale.old state }
+    requires known { AreIdle flat.now wakes.now stale.old state }
     requires streams { 2 * acts_of flat.now.parts ≤ streams.old.streams }
     ensures steps { Steps flat.now result.0 result.1 (law_step.step (net_of flat.now
         (draw_of streams.old.seed) (limits_in limits.now)) state) }
     ensures running { IfOk result.0 (λ e. IsRunning flat.now limits.now result.1) }
-    ensures known { IfOk result.0 (λ e. AreIdle flat.now (draw_of streams.old.seed) stale.new
-        result.1) }
+    ensures known { IfOk result.0 (λ e. AreIdle flat.now wakes.now stale.new result.1) }
     ensures streams { streams.new ≡ streams.old }
 {
     flat.is_network();
-    match next_of(flat, stale, &state) {
-        Next::Stable => at_rest(flat, tables, streams, limits, stale, state),
+    match next_of(flat, wakes, stale, &state) {
+        Next::Stable => at_rest(flat, tables, wakes, streams, limits, stale, state),
         Next::Completes(leaf, act) => {
             let (answer, left) = complete_instant(flat, streams, limits, leaf, act, state);
-            touch(flat, leaf, &left.stable, &left.marking, stale);
+            touch(flat, wakes, leaf, &left.stable, &left.marking, stale);
             (answer, left)
         }
         Next::Traps(leaf, act, trap) => {

@@ -1,4 +1,5 @@
-use Rattle.std.proofs.Common.{◌∙◌, ◌≤◌, ◌+◌, sym, ap, subst, length, map, ℕ, List, Option, All}
+use Rattle.std.proofs.Common.{◌∙◌, ◌<◌, ◌≤◌, ◌+◌, sym, ap, subst, length, map, ℕ, List, Option, All}
+use Rattle.std.specs.Prelude.{IfErr}
 use Rattle.std.specs.Option.{option_map}
 use Rattle.std.proofs.lemmas.List.{with_items_is}
 use Rattle.std.specs.Vec.{with_items}
@@ -36,3 +37,7 @@ pub returns-clause-numbers : goal.returns-clause-numbers
 returns-clause-numbers g c = λ most all.
     subst (λ (ns : List ℕ). All (λ n. n ≤ most + 1) ns) (sym (with_items_is c.row.inside.delays c.renew_acts.new.delays (c.renew_acts.ensures.sized.1 ∙ c.as_mut_slice-2.ensures.len)))
     (c.renew_acts.ensures.numbers most (subst (λ (ns : List ℕ). All (λ n. n ≤ most) ns) (ap (λ r. r.delays) (sym c.row.view_is) ∙ sym c.as_mut_slice-2.ensures.value) all))
+
+pub returns-clause-within : goal.returns-clause-within
+returns-clause-within g c =
+    subst (λ (acts : List Named). IfErr c.renew_acts.result (λ fault. fault.0 < length acts)) (c.as_slice.ensures ∙ ap (λ b. b.acts) c.get.ensures) c.renew_acts.ensures.within

@@ -1,9 +1,6 @@
-use Rattle.std.proofs.Common.{◌≡◌, ◌-◌, length, drop}
+use Rattle.std.proofs.Common.{◌≡◌, drop}
 use Rattle.san_seq.specs.inner.Nexts.{first_from}
 use Rattle.san_seq.proofs.next.first_of_all.Given as goal
 
 abbrev pub invariant-leaves : goal.invariant-leaves
-invariant-leaves l = first_from 0 l.marking l.flat.parts ≡ first_from l.from l.marking (drop l.from l.flat.parts)
-
-abbrev pub decreases-leaves : goal.decreases-leaves
-decreases-leaves l = length l.flat.parts - l.from
+invariant-leaves l = first_from 0 l.marking l.flat.parts ≡ first_from l.j l.marking (drop l.j l.flat.parts)

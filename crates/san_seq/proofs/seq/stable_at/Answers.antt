@@ -1,19 +1,14 @@
 use Rattle.std.proofs.Common.{◌∙◌, ap, subst, sym}
-use Rattle.san_draw.specs.Key.{draw_of}
 use Rattle.san_net.specs.Network.{net_of}
 use Rattle.san_seq.specs.FlatRun.{run_phase_in, stable_in, where_stable}
 use Rattle.san_seq.specs.inner.Held.{IsRunPhase}
 use Rattle.san_seq.specs.declared.seq.Phase.{Phase}
 use Rattle.san_seq.specs.Overs.{limits_in}
-use Rattle.san_seq.proofs.KnownLemmas.{have_nothing}
 use Rattle.san_seq.proofs.seq.stable_at.Goals as goal
 
-pub next_of-requires-clause-idle : goal.next_of-requires-clause-idle
-next_of-requires-clause-idle c =
-    let n = c.args.flat.now in
-    let draw = draw_of c.requires.1 in
-    let running = subst (λ (g : Phase). IsRunPhase n c.args.limits.now draw c.args.stale.now (run_phase_in g)) c.in-Running.is c.requires.2.run_phase in
-    have_nothing n draw c.args.stale.now c.in-Running.state running.1
+pub next_of-requires-clause-known : goal.next_of-requires-clause-known
+next_of-requires-clause-known c =
+    (subst (λ (g : Phase). IsRunPhase c.args.flat.now c.args.limits.now c.args.wakes.now c.args.stale.now (run_phase_in g)) c.in-Running.is c.requires.1.run_phase).1
 
 pub returns-in-Running : goal.returns-in-Running
 returns-in-Running c = λ draw.

@@ -1,10 +1,16 @@
-use Rattle.std.proofs.Common.{subst, List}
-use Rattle.san_base.specs.declared.numbers.LeafId.{LeafId}
-use Rattle.san_seq.specs.inner.Known.{Raised}
-use Rattle.san_seq.proofs.TouchLemmas.{touched_raised}
+use Rattle.std.proofs.Common.{arith, refl, sym, subst, ◌<◌, ◌≡◌, ◌∷◌, [], List, Bool, length}
+use Rattle.san_seq.specs.inner.Known.{IsTouched}
+use Rattle.san_seq.proofs.TouchLemmas.{touched_itself, touched_raised}
 use Rattle.san_seq.proofs.stale.touch_place.Goals as goal
 
-pub returns-then-stable-place : goal.returns-then-stable-place
-returns-then-stable-place c =
-    touched_raised c.args.flat.now c.args.place.0 c.args.stable.now c.args.marking.now c.args.stale.now c.raise.new.stale c.is_network.ensures.network.numbered.leaves
-    (subst (λ (leaves : List LeafId). Raised leaves c.args.stale.now c.raise.new.stale) c.importers.ensures c.raise.ensures)
+pub returns-then-stable-at : goal.returns-then-stable-at
+returns-then-stable-at c =
+    let place = c.args.place.0 in
+    let stable = c.args.stable.now in
+    let m = c.args.marking.now in
+    let h : place < length c.args.stale.now.places = omega (arith, c.requires.place, c.requires.stable) in
+    record {
+      settled = refl;
+      timers = touched_raised c.args.wakes.now.timers place stable m c.timers.result.now c.args.stale.now.timers c.raise.new.flags c.timers.ensures c.raise.ensures;
+      places = subst (λ (fs : List Bool). IsTouched (λ q j. q ≡ j) (place ∷ []) stable m c.args.stale.now.places fs) (sym c.set.ensures) (touched_itself place stable m c.args.stale.now.places h);
+    }

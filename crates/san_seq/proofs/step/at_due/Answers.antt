@@ -92,9 +92,9 @@ returns-then-due-limits-clause-known c =
     let u = c.fire-then.result in
     let v = c.complete_timed-answer.result.1 in
     if_answered c.complete_timed-answer.result.0 n (fire net u d.leaf d.act).0 _ c.complete_timed-answer.ensures.answered
-    (λ t e. timed_known n draw bounds c.is_network.ensures.laid d.leaf d.act (omega (arith, c.requires.leaf, c.requires.drawn.rows.each)) v c.deref.result.now c.deref-then-due-limits.result.now c.fire-then.new.stale c.touch.new.stale
+    (λ t e. timed_known n draw bounds c.args.wakes.now c.is_network.ensures.laid d.leaf d.act (omega (arith, c.requires.leaf, c.requires.drawn.rows.each)) v c.deref.result.now c.deref-then-due-limits.result.now c.fire-then.new.stale c.touch.new.stale
     (c.deref.ensures.value ∙ ap (λ (x : State). x.stable) c.left.view_is) (c.deref-then-due-limits.ensures.value ∙ ap (λ (x : State). x.marking) c.left.view_is)
-    (c.fire-then.ensures.flags ∙ c.requires.flags) c.touch.ensures.own c.touch.ensures.touched
+    c.requires.woken c.fire-then.ensures.flags c.touch.ensures.own c.touch.ensures.touched
     c.args.state d u t refl c.requires.drawn.marking (c.fire-then.ensures.fired net) c.requires.quiet c.complete_timed-answer.ensures.left e)
 
 pub fire-then-requires-clause-small : goal.fire-then-requires-clause-small

@@ -15,7 +15,7 @@ use Rattle.san_seq.specs.inner.Rows.{renewal_by, row_at}
 use Rattle.san_seq.specs.inner.Running.{Steps}
 use Rattle.san_seq.proofs.RangeLemmas.{due_within, rows_small}
 use Rattle.san_seq.specs.inner.Known.{AreQuiet, HaveSame}
-use Rattle.san_seq.proofs.KnownLemmas.{are_fresh, have_same, quiet_after}
+use Rattle.san_seq.proofs.KnownLemmas.{are_fresh, quiet_after}
 use Rattle.san_seq.proofs.RunningLemmas.{renewed_drawn}
 use Rattle.san_seq.proofs.WithinLemmas.{fault_within}
 use Rattle.san_seq.proofs.SteppingLemmas.{ends_like}
@@ -73,12 +73,13 @@ returns-in-Err-clause-steps c =
 
 pub renew-done-requires-clause-idle : goal.renew-done-requires-clause-idle
 renew-done-requires-clause-idle c =
-    are_fresh c.args.flat.now (draw_of c.args.streams.now.seed) c.args.stale.now c.args.state c.requires.known
+    let draw = draw_of c.args.streams.now.seed in
+    let bounds = limits_in c.args.limits.now in
+    are_fresh c.args.flat.now draw bounds c.args.wakes.now c.args.stale.now c.args.state (c.is_network.ensures.lawful draw bounds) c.requires.known
 
 pub at_due-requires-clause-same : goal.at_due-requires-clause-same
 at_due-requires-clause-same c =
-    subst (λ (s : State). HaveSame c.args.flat.now.parts c.args.stale.now s.stable s.marking) (sym c.renew-done.ensures.left)
-    (have_same c.args.flat.now (draw_of c.args.streams.now.seed) c.args.stale.now c.args.state c.requires.known)
+    subst (λ (s : State). HaveSame c.args.stale.now.places s.stable s.marking) (sym c.renew-done.ensures.left) c.requires.known.places
 
 pub at_due-requires-clause-quiet : goal.at_due-requires-clause-quiet
 at_due-requires-clause-quiet c =
@@ -87,10 +88,8 @@ at_due-requires-clause-quiet c =
     let bounds = limits_in c.args.limits.now in
     let rows = c.renew-done.result.1.rows in
     let fresh = sym (c.renew-done.ensures.rows bounds) ∙ ap (λ (r : Result (Unit {0}) (LeafId × ℕ × Trap)). renewal_by r rows) c.in-Ok.is in
-    let seed = ap (λ x. x.seed) c.renew-done.ensures.streams in
-    subst (λ (s : ℕ). AreQuiet (draw_of s) n.parts c.renew-done.result.1.marking rows) (sym seed)
-    (subst (λ (m : List ℕ). AreQuiet draw n.parts m rows) (ap (λ (s : State). s.marking) (sym c.renew-done.ensures.left))
-    (quiet_after n draw bounds (c.is_network.ensures.lawful draw bounds) c.args.state rows c.requires.running.rows.each fresh c.requires.settled))
+    subst (λ (m : List ℕ). AreQuiet n.parts m rows) (ap (λ (s : State). s.marking) (sym c.renew-done.ensures.left))
+    (quiet_after n draw bounds (c.is_network.ensures.lawful draw bounds) c.args.state rows c.requires.running.rows.each fresh c.requires.settled)
 
 pub trapped-ending-requires : goal.trapped-ending-requires
 trapped-ending-requires c =

@@ -10,7 +10,7 @@ use Rattle.san_seq.specs.inner.States.{instant_in}
 use Rattle.san_seq.specs.inner.Running.{Steps}
 use Rattle.san_seq.proofs.RangeLemmas.{acts_next, next_in_range}
 use Rattle.san_seq.specs.Outcomes.{ending_in}
-use Rattle.san_seq.proofs.KnownLemmas.{have_nothing, if_answered, instant_known, instant_sized, settled}
+use Rattle.san_seq.proofs.KnownLemmas.{if_answered, instant_known, instant_sized, settled}
 use Rattle.san_seq.proofs.NextLaws.{next_is}
 use Rattle.san_seq.proofs.RunningLemmas.{ready}
 use Rattle.san_seq.proofs.SteppingLemmas.{ends_like, instant_runs, step_is, steps_like}
@@ -75,10 +75,6 @@ returns-in-Traps-clause-steps c =
     (ap (λ (x : Stepped × State). x.0) same)
     (ap (λ (x : Stepped × State). x.1.marking) same)
 
-pub next_of-requires-clause-idle : goal.next_of-requires-clause-idle
-next_of-requires-clause-idle c =
-    have_nothing c.args.flat.now (draw_of c.args.streams.now.seed) c.args.stale.now c.args.state c.requires.known
-
 pub at_rest-requires-clause-settled : goal.at_rest-requires-clause-settled
 at_rest-requires-clause-settled c =
     let n = c.args.flat.now in
@@ -127,7 +123,7 @@ returns-in-Completes-clause-known c =
     let v = c.complete_instant-answer.result.1 in
     let inside = (next_in_range n draw bounds c.args.state j k c.requires.running.last (ap acts_next (sym (c.next_of.ensures draw bounds) ∙ ap next_in c.in-Completes.is))).leaf in
     if_answered c.complete_instant-answer.result.0 n (instant_in n draw bounds u j k).0 _ c.complete_instant-answer.ensures.answered
-    (λ t e. instant_known n draw bounds c.is_network.ensures.laid j k inside v c.deref.result.now c.deref-in-Completes.result.now c.args.stale.now c.touch.new.stale
+    (λ t e. instant_known n draw bounds c.args.wakes.now c.is_network.ensures.laid j k inside v c.deref.result.now c.deref-in-Completes.result.now c.args.stale.now c.touch.new.stale
     (c.deref.ensures.value ∙ ap (λ (x : State). x.stable) c.left.view_is) (c.deref-in-Completes.ensures.value ∙ ap (λ (x : State). x.marking) c.left.view_is)
-    c.requires.known.sized c.touch.ensures.own c.touch.ensures.touched
+    c.requires.known.woken c.requires.known.flags c.touch.ensures.own c.touch.ensures.touched
     c.args.state u t c.requires.running.marking refl c.requires.known c.complete_instant-answer.ensures.left e)
