@@ -4,7 +4,7 @@ use Rattle.std.proofs.lemmas.Bool.Decides.{nat_tests}
 use Rattle.std.proofs.lemmas.Bool.{true≢false}
 use Rattle.san_line.specs.declared.version.Version.{Version}
 use Rattle.san_line.specs.Lines.{first_by, before, is_key, inserted, inserted_by, without_all, find, found_by}
-use Rattle.san_line.specs.inner.Ordered.{AllAfter, IsOrdered}
+use Rattle.san_line.specs.Ordered.{AllAfter, IsOrdered}
 
 -- what is found where it may have gone
 abbrev pub hidden : {X : Type 0} → Bool → Option X → Option X

@@ -6,7 +6,7 @@ use Rattle.std.proofs.lemmas.Bool.Decides.{nat_tests}
 use Rattle.std.proofs.lemmas.Bool.{cases_eq, true≢false}
 use Rattle.san_base.specs.declared.piece.Stamp.{Stamp}
 use Rattle.san_line.specs.Lines.{before, first_by, inserted, inserted_by, next_after, next_by, sees, sees_now, value_at, value_or}
-use Rattle.san_line.specs.inner.Ordered.{AllAfter, IsOrdered}
+use Rattle.san_line.specs.Ordered.{AllAfter, IsOrdered}
 use Rattle.san_line.specs.inner.Searches.{reaches, reaches_by}
 use Rattle.san_line.specs.declared.version.Version.{Version}
 use Rattle.san_line.proofs.Ordered.{before_pass, by_bool}

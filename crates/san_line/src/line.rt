@@ -3,7 +3,7 @@
 ghost use Rattle.std.specs.Prelude.{◌≡◌, ◌≤◌, ◌<◌, ◌+◌, ◌-◌, ◌++◌, ◌≢◌, ℕ, length, take, drop, max, None, [], ◌∷◌, nat_eq, nat_le, IfOk, IsOk, OnOk, OnErr};
 ghost use Rattle.san_line.specs.Lines.{find, inserted, next_after, value_at, value_in, withdrawn, without};
 ghost use Rattle.std.specs.List.{insert};
-ghost use Rattle.san_line.specs.inner.Ordered.{IsOrdered};
+ghost use Rattle.san_line.specs.Ordered.{IsOrdered};
 ghost use Rattle.san_line.specs.inner.Searches.{reaches as is_reached};
 
 use crate::version::{Version, before, sees};
@@ -25,7 +25,7 @@ pub struct Line {
 impl Model for Line {
     ghost use Rattle.std.specs.Prelude.{◌<◌, ◌≤◌, ◌+◌, vec_len, vec_capacity};
     ghost use Rattle.san_line.specs.Lines.{LineValue};
-    ghost use Rattle.san_line.specs.inner.Ordered.{IsOrdered};
+    ghost use Rattle.san_line.specs.Ordered.{IsOrdered};
     ghost use Rattle.san_line.specs.declared.line.TheConstants.{MAX_VERSIONS};
 
     ghost Value = { LineValue };

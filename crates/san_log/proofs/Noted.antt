@@ -5,7 +5,7 @@ use Rattle.std.proofs.lemmas.Bool.{eq-eqb, eqb-true}
 use Rattle.std.proofs.lemmas.List.Elements.{All-append}
 use Rattle.san_base.specs.declared.limits.TheConstants.{MAX_TOKENS}
 use Rattle.san_log.specs.Logs.{AgreesWith, Entry, find, found_by}
-use Rattle.san_log.specs.inner.Once.{AreNoted, AreOnce}
+use Rattle.san_log.specs.Once.{AreNoted, AreOnce}
 
 -- a place that isn't the last one's has no more than before
 still_none : (p : ℕ) (es : List Entry) (e : Entry) → find p es ≡ None → nat_eq e.0.0 p ≡ false → find p (es ++ e ∷ []) ≡ None

@@ -1,2 +1,2 @@
 pub mod Logs
-pub mod inner
+pub mod Once

@@ -20,7 +20,7 @@ pub struct ReadLog {
 impl Model for ReadLog {
     ghost use Rattle.std.specs.Prelude.{◌≤◌, vec_len, vec_capacity};
     ghost use Rattle.san_log.specs.Logs.{LogValue};
-    ghost use Rattle.san_log.specs.inner.Once.{AreNoted};
+    ghost use Rattle.san_log.specs.Once.{AreNoted};
     ghost use Rattle.san_log.specs.declared.log.TheConstants.{MAX_ROOM};
 
     ghost Value = { LogValue };

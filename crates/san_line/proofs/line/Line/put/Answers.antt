@@ -2,7 +2,7 @@ use Rattle.std.proofs.Common.{arith, ◌≡◌, ◌∙◌, ap, sym, subst, None,
 use Rattle.std.specs.Prelude.{insert}
 use Rattle.san_line.proofs.Ordered.{ordered_inserted}
 use Rattle.san_line.specs.Lines.{LineValue, find, inserted}
-use Rattle.san_line.specs.inner.Ordered.{IsOrdered}
+use Rattle.san_line.specs.Ordered.{IsOrdered}
 use Rattle.san_line.specs.declared.version.Version.{Version}
 use Rattle.san_line.proofs.line.Line.put.Goals as goal
 

@@ -2,7 +2,7 @@ use Rattle.std.proofs.Common.{rules, arith, ◌≡◌, ◌&&◌, ap, sym, subst,
 use Rattle.std.proofs.lemmas.Fn.{filter_same}
 use Rattle.san_line.proofs.Ordered.{ordered_without}
 use Rattle.san_line.specs.Lines.{without_all}
-use Rattle.san_line.specs.inner.Ordered.{IsOrdered}
+use Rattle.san_line.specs.Ordered.{IsOrdered}
 use Rattle.san_line.specs.declared.version.Version.{Version}
 use Rattle.san_line.proofs.line.Line.remove.Goals as goal
 

@@ -1,0 +1,12 @@
+pub mod Lines
+pub mod Machines
+pub mod Chains
+pub mod Cores
+pub mod Plans
+pub mod Steps
+pub mod Journals
+pub mod Whole
+pub mod Bounds
+pub mod Laws
+pub mod Nets
+pub mod Examples
