@@ -1,0 +1,17 @@
+pub mod RecordLemmas
+pub mod ViewLemmas
+pub mod BackLemmas
+pub mod EndLemmas
+pub mod CountLemmas
+pub mod ImpulseLemmas
+pub mod TurnLemmas
+pub mod BlockLaws
+pub mod KindLaws
+pub mod SoundLemmas
+pub mod FoundLemmas
+pub mod CellLemmas
+pub mod MadeLemmas
+pub mod FirstLemmas
+pub mod FitLemmas
+pub mod GatherLemmas
+pub mod RenewalLemmas

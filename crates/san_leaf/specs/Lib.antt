@@ -1,0 +1,11 @@
+pub mod Blocks
+pub mod Claimed
+pub mod Claims
+pub mod Events
+pub mod Fits
+pub mod Lawful
+pub mod Outcomes
+pub mod Pieces
+pub mod States
+pub mod Views
+pub mod inner
