@@ -1,4 +1,5 @@
 pub mod Bools
 pub mod FlowLemmas
 pub mod Lists
+pub mod NumberTests
 pub mod SameLemmas

@@ -1,5 +1,5 @@
 -- Lists, whole and in parts.
-use Rattle.std.proofs.Common.{◌≡◌, ◌≤◌, ℕ, zero, suc, refl, ap, List, [], ◌∷◌, ◌++◌, length, take, drop, arith}
+use Rattle.std.proofs.Common.{◌≡◌, ◌≤◌, ℕ, zero, suc, refl, ap, List, [], ◌∷◌, ◌++◌, length, map, take, drop, arith}
 
 module _ {A : Type 0} where
   pub nothing_behind : (xs : List A) → xs ++ [] ≡ xs
@@ -17,3 +17,7 @@ module _ {A : Type 0} where
   drop_whole (suc n) [] h = refl
   drop_whole zero (x ∷ xs) h = absurd (omega (arith, h))
   drop_whole (suc n) (x ∷ xs) h = drop_whole n xs (omega (arith, h))
+
+pub map_last : {A B : Type 0} (f : A → B) (xs : List A) (x : A) → map f (xs ++ x ∷ []) ≡ map f xs ++ f x ∷ []
+map_last f [] x = refl
+map_last f (y ∷ ys) x = ap (λ (zs : List _). f y ∷ zs) (map_last f ys x)

@@ -18,7 +18,7 @@ same_turn xs ys i c d lt e so_far is = let one : i + 1 ≡ suc i = omega arith i
 pub same_all : {A : Type 0} (xs ys : List A) (i : ℕ) → length xs ≤ i → length xs ≡ length ys → take i xs ≡ take i ys → xs ≡ ys
 same_all xs ys i le e so_far = sym (take_all i xs le) ∙ so_far ∙ take_all i ys (omega (arith, e))
 
-at_any : {A : Type 0} (xs : List A) (i : ℕ) (c d : A) → i < length xs → get_or xs i c ≡ get_or xs i d
+pub at_any : {A : Type 0} (xs : List A) (i : ℕ) (c d : A) → i < length xs → get_or xs i c ≡ get_or xs i d
 at_any [] i c d lt = absurd (omega arith)
 at_any (x ∷ xs) zero c d lt = refl
 at_any (x ∷ xs) (suc i) c d lt = at_any xs i c d (omega arith)

@@ -41,6 +41,9 @@ pub const MAX_BURST: u32 = 10_000;
 /// The greatest event limit, in completions.
 pub const MAX_EVENTS: u64 = 10_000_000;
 
+/// The most threads that run ahead, beside the caller.
+pub const MAX_WORKERS: u32 = 64;
+
 /// The widest window, in pieces.
 pub const MAX_WINDOW: u32 = 64;
 
@@ -49,6 +52,9 @@ pub const MAX_ROLLBACKS: u64 = 1_000_000;
 
 /// The greatest value, and with a minus the least, at which a reward's term is no fault.
 pub const MAX_RATED: u64 = 1_000_000_000;
+
+/// The most impulses of one completion: 16 terms for each of 64 rewards.
+pub const MAX_EVENT_IMPULSES: u64 = 1_024;
 
 /// More impulses than any run counts.
 pub const MAX_IMPULSES: u64 = 1_099_511_627_776;

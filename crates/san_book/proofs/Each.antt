@@ -1,4 +1,5 @@
 -- Lines of written places, changed one after another.
+use Rattle.san_base.proofs.NumberTests.{number_itself, by_number}
 use Rattle.std.proofs.Common.{ℕ, ◌<◌, ◌≡◌, ◌≢◌, ◌∙◌, inl, inr, ap, sym, refl, subst, List, [], ◌∷◌, length, Option, Some, None, Bool, true, false, nat_eq, arith, slice_index, slice_set}
 use Rattle.std.proofs.lemmas.Bool.{cases_eq, eq-eqb, ne_eqb, eqb-true}
 use Rattle.std.proofs.lemmas.Bool.Decides.{nat_tests}
@@ -10,21 +11,8 @@ abbrev pub either : {X : Type 0} → Bool → X → X → X
 either true a b = a
 either false a b = b
 
--- at one number and at all others
-pub by_number : (P : ℕ → Type 0) (j : ℕ) → P j → ((i : ℕ) → i ≢ j → P i) → (i : ℕ) → P i
-by_number P j a b i = elim (cases_eq i j) [ inl e ↦ subst P (sym e) a | inr n ↦ b i n ]
-
-pub eq_self : (j : ℕ) → nat_eq j j ≡ true
-eq_self j = eq-eqb j j refl
-
 pub eq_turn : (i j : ℕ) → nat_eq i j ≡ nat_eq j i
 eq_turn i j = grind (arith, nat_tests)
-
-pub flip : (m n : ℕ) → nat_eq m n ≡ false → nat_eq n m ≡ false
-flip m n h = grind (arith, nat_tests)
-
-pub same : (m n : ℕ) → nat_eq m n ≡ true → m ≡ n
-same m n h = eqb-true m n h
 
 pub unlike : (i j : ℕ) → i ≢ j → nat_eq j i ≡ false
 unlike i j d = ne_eqb j i (λ e. d (sym e))
@@ -43,7 +31,7 @@ each_by : (f : ℕ → ℕ → Line → Line) (w : ℕ × ℕ) (ws : List (ℕ �
 each_by f w ws lines q n h = by_number (λ q. changed (write_of q ws) (f q) (line_of (slice_set lines w.0 (f w.0 w.1 (line_of lines w.0))) q) ≡ changed (write_of q (w ∷ ws)) (f q) (line_of lines q)) w.0
     (ap (λ o. changed o (f w.0) (line_of (slice_set lines w.0 (f w.0 w.1 (line_of lines w.0))) w.0)) n
     ∙ (get_or-set_same lines w.0 (f w.0 w.1 (line_of lines w.0)) no_line h
-    ∙ sym (ap (λ b. changed (either b (Some w.1) (write_of w.0 ws)) (f w.0) (line_of lines w.0)) (eq_self w.0))))
+    ∙ sym (ap (λ b. changed (either b (Some w.1) (write_of w.0 ws)) (f w.0) (line_of lines w.0)) (number_itself w.0))))
     (λ i d. ap (λ l. changed (write_of i ws) (f i) l) (get_or-set_other lines w.0 i (f w.0 w.1 (line_of lines w.0)) no_line d)
     ∙ sym (ap (λ b. changed (either b (Some w.1) (write_of i ws)) (f i) (line_of lines i)) (unlike i w.0 d)))
     q

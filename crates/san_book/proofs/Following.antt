@@ -1,4 +1,5 @@
 -- What is committed of the law's own part follows the run, whatever is done to the core.
+use Rattle.san_base.proofs.NumberTests.{same_number}
 use Rattle.std.proofs.Common.{ℕ, zero, suc, ◌+◌, ◌<◌, ◌≡◌, ◌⊎◌, ◌∙◌, inl, inr, ap, sym, refl, subst, List, [], ◌∷◌, Option, Some, None, nat_eq, arith}
 use Rattle.std.specs.Prelude.{if◌then◌else◌, slice_index}
 use Rattle.std.proofs.lemmas.Bool.{eq-eqb, true≢false}
@@ -17,7 +18,6 @@ use Rattle.san_law.proofs.Ahead.{same_view}
 use Rattle.san_law.proofs.Standing.{pieces_keep}
 use Rattle.san_book.specs.Machines.{advance, after_pieces, take_need}
 use Rattle.san_book.specs.Nets.{EveryRunFollows, is_there, logged, machine_of, or_zero, places_in, shared_in, values_from}
-use Rattle.san_book.proofs.Each.{same}
 use Rattle.san_book.proofs.Replaying.{every_run}
 use Rattle.san_book.proofs.Subject.{net_is_lawful}
 
@@ -43,7 +43,7 @@ find_logged : (ss : List Slot) (shared : List ℕ) (q : ℕ) → IsShared q ss �
 find_logged [] shared q h = absurd h
 find_logged (Private p ∷ ss) shared q h = find_logged ss shared q h
 find_logged (Shared r ∷ ss) shared q h = by_bool (λ b. nat_eq r q ≡ b → found_by b (slice_index shared r) (find q (logged (shared_in ss) shared)) ≡ Some (slice_index shared q)) (nat_eq r q)
-    (λ _ e. ap (λ (n : ℕ). Some (slice_index shared n)) (same r q e))
+    (λ _ e. ap (λ (n : ℕ). Some (slice_index shared n)) (same_number r q e))
     (λ _ e. elim h [ inl k ↦ absurd (true≢false (sym (eq-eqb r q (sym k)) ∙ e)) | inr k ↦ find_logged ss shared q k ])
     refl
 

@@ -1,4 +1,5 @@
 -- Pieces come into the lines and go.
+use Rattle.san_base.proofs.NumberTests.{same_number, number_itself, by_number}
 use Rattle.std.proofs.Common.{ℕ, ◌<◌, ◌≡◌, ◌∙◌, ◌&&◌, inl, inr, ap, sym, refl, subst, List, [], ◌∷◌, ◌++◌, length, Option, Some, None, Bool, true, false, nat_eq}
 use Rattle.std.proofs.lemmas.Bool.{cases_lt, true≢false}
 use Rattle.std.proofs.lemmas.List.{append-nil, get_or_past}
@@ -9,16 +10,16 @@ use Rattle.san_line.proofs.Ordered.{by_bool, find_inserted, find_without, hidden
 use Rattle.san_book.specs.Machines.{Reading}
 use Rattle.san_book.specs.Lines.{AreCommitted, AreWrites, Line, commit, each, line_of, no_line, put, version_at, withdraw, write_of}
 use Rattle.san_book.specs.Chains.{AllFit, AreApart, Chain, Exact, has, version_of, with_piece, without_piece, without_pieces, written}
-use Rattle.san_book.proofs.Each.{by_number, changed, committed_kept, each_at, either, eq_self, eq_turn, length_each, same, unlike}
+use Rattle.san_book.proofs.Each.{changed, committed_kept, each_at, either, eq_turn, length_each, unlike}
 use Rattle.san_book.proofs.Written.{apart_less, with_chain, written_at, written_free, written_less, written_push}
 
 -- one line, when a piece's version comes
 put_own : (t j n q pos : ℕ) (o : Option ℕ) (l : Line) → find j n l.versions ≡ None →
     find j pos (changed o (put t j n q) l).versions ≡ either (nat_eq n pos) (version_of t j n o) (find j pos l.versions)
 put_own t j n q pos None l e = by_bool (λ b. find j pos l.versions ≡ either b None (find j pos l.versions)) (nat_eq n pos)
-    (λ k. subst (λ (m : ℕ). find j m l.versions ≡ None) (same n pos k) e) (λ k. refl)
+    (λ k. subst (λ (m : ℕ). find j m l.versions ≡ None) (same_number n pos k) e) (λ k. refl)
 put_own t j n q pos (Some v) l e =
-    find_inserted j pos (version_at t j n v) l.versions e ∙ turn (nat_eq j j) (nat_eq n pos) (version_at t j n v) (find j pos l.versions) (eq_self j)
+    find_inserted j pos (version_at t j n v) l.versions e ∙ turn (nat_eq j j) (nat_eq n pos) (version_at t j n v) (find j pos l.versions) (number_itself j)
   where
     turn : (a b : Bool) (w : Version) (o : Option Version) → a ≡ true → found_by (a && b) w o ≡ either b (Some w) o
     turn true true w o h = refl
@@ -39,9 +40,9 @@ put_ordered t j n q (Some v) l e h = ordered_inserted (version_at t j n v) l.ver
 drop_own : (t j n q pos : ℕ) (o : Option ℕ) (l : Line) → find j n l.versions ≡ version_of t j n o →
     find j pos (changed o (withdraw j n q) l).versions ≡ hidden (nat_eq n pos) (find j pos l.versions)
 drop_own t j n q pos None l e = by_bool (λ b. find j pos l.versions ≡ hidden b (find j pos l.versions)) (nat_eq n pos)
-    (λ k. subst (λ (m : ℕ). find j m l.versions ≡ None) (same n pos k) e) (λ k. refl)
+    (λ k. subst (λ (m : ℕ). find j m l.versions ≡ None) (same_number n pos k) e) (λ k. refl)
 drop_own t j n q pos (Some v) l e = find_without (λ l p. nat_eq l j && nat_eq p n) j pos l.versions
-    ∙ (ap (λ b. hidden (b && nat_eq pos n) (find j pos l.versions)) (eq_self j) ∙ ap (λ b. hidden b (find j pos l.versions)) (eq_turn pos n))
+    ∙ (ap (λ b. hidden (b && nat_eq pos n) (find j pos l.versions)) (number_itself j) ∙ ap (λ b. hidden b (find j pos l.versions)) (eq_turn pos n))
 
 drop_other : (j n q i pos : ℕ) (o : Option ℕ) (l : Line) → nat_eq i j ≡ false →
     find i pos (changed o (withdraw j n q) l).versions ≡ find i pos l.versions
@@ -73,7 +74,7 @@ lines_more r j x f lines fit free h = record {
       (put_own (r.time x.1) j x.0 q pos (write_of q (r.writes x.1)) (line_of lines q) (exact_within r lines f h q j x.0 free)
       ∙ (ap (λ o. either (nat_eq x.0 pos) (version_of (r.time x.1) j x.0 (write_of q (r.writes x.1))) o) (h.versions q j pos k2)
       ∙ (sym (written_push r j q pos (f j) x free)
-      ∙ sym (ap (λ b. written r j q pos (either b (f j ++ x ∷ []) (f j))) (eq_self j)))))
+      ∙ sym (ap (λ b. written r j q pos (either b (f j ++ x ∷ []) (f j))) (number_itself j)))))
       (λ i d. put_other (r.time x.1) j x.0 q i pos (write_of q (r.writes x.1)) (line_of lines q) (exact_within r lines f h q j x.0 free) (unlike i j d)
       ∙ (h.versions q i pos k2
       ∙ sym (ap (λ b. written r i q pos (either b (f j ++ x ∷ []) (f i))) (unlike i j d))))
@@ -94,7 +95,7 @@ lines_less r j a b x f lines fit is apart h = record {
       (drop_own (r.time x.1) j x.0 q pos (write_of q (r.writes x.1)) (line_of lines q) (h.versions q j x.0 k2 ∙ (ap (λ c. written r j q x.0 c) is ∙ written_at r j q a b x apart))
       ∙ (ap (λ o. hidden (nat_eq x.0 pos) o) (h.versions q j pos k2 ∙ ap (λ c. written r j q pos c) is)
       ∙ (sym (written_less r j q pos a b x apart)
-      ∙ sym (ap (λ t. written r j q pos (either t (a ++ b) (f j))) (eq_self j)))))
+      ∙ sym (ap (λ t. written r j q pos (either t (a ++ b) (f j))) (number_itself j)))))
       (λ i d. drop_other j x.0 q i pos (write_of q (r.writes x.1)) (line_of lines q) (eq_turn i j ∙ unlike i j d)
       ∙ (h.versions q i pos k2
       ∙ sym (ap (λ t. written r i q pos (either t (a ++ b) (f i))) (unlike i j d))))
@@ -112,7 +113,7 @@ chain_twice {P} f j a b i = twice (nat_eq j i) a b (f i)
     twice false u v w = refl
 
 pub chain_same : {P : Type 0} (f : ℕ → Chain P) (j : ℕ) (c : Chain P) → f j ≡ c → (i : ℕ) → f i ≡ with_chain f j c i
-chain_same f j c e i = by_bool (λ t. f i ≡ either t c (f i)) (nat_eq j i) (λ k. subst (λ (n : ℕ). f n ≡ c) (same j i k) e) (λ k. refl)
+chain_same f j c e i = by_bool (λ t. f i ≡ either t c (f i)) (nat_eq j i) (λ k. subst (λ (n : ℕ). f n ≡ c) (same_number j i k) e) (λ k. refl)
 
 -- all from one on go
 pub lines_cut : {S P : Type 0} (r : Reading S P) (j : ℕ) (a b : Chain P) (f : ℕ → Chain P) (lines : List Line) → AllFit r (length lines) b → f j ≡ a ++ b → AreApart (a ++ b) → Exact r lines f →
@@ -120,7 +121,7 @@ pub lines_cut : {S P : Type 0} (r : Reading S P) (j : ℕ) (a b : Chain P) (f : 
 lines_cut r j a [] f lines fit is apart h = exact_same r lines f (with_chain f j a) (chain_same f j a (is ∙ append-nil a)) h
 lines_cut {S} {P} r j a (x ∷ b) f lines fit is apart h =
     let less : List Line = without_piece r j x.0 x.1 lines in
-    let there : with_chain f j (a ++ b) j ≡ a ++ b = ap (λ t. either t (a ++ b) (f j)) (eq_self j) in
+    let there : with_chain f j (a ++ b) j ≡ a ++ b = ap (λ t. either t (a ++ b) (f j)) (number_itself j) in
     exact_same r (without_pieces r j b less) (with_chain (with_chain f j (a ++ b)) j a) (with_chain f j a) (chain_twice f j (a ++ b) a)
     (lines_cut r j a b (with_chain f j (a ++ b)) less (subst (λ n. AllFit r n b) (sym (length_each (withdraw j x.0) (r.writes x.1) lines)) fit.1) there (apart_less a b x apart)
     (lines_less r j a b x f lines fit.0 is apart h))

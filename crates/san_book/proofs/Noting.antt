@@ -5,6 +5,7 @@ use Rattle.std.proofs.lemmas.Bool.Decides.{nat_tests}
 use Rattle.std.proofs.lemmas.Bool.{eq-eqb, eqb-true, true≢false}
 use Rattle.std.proofs.lemmas.List.{append-nil}
 use Rattle.san_base.proofs.Bools.{both_true}
+use Rattle.san_base.proofs.NumberTests.{number_turned, number_within}
 use Rattle.san_base.specs.declared.limits.Limits.{Limits}
 use Rattle.san_base.specs.declared.limits.TheConstants.{MAX_TOKENS}
 use Rattle.san_log.specs.Logs.{AgreesWith, Entry, find, found_by, noted, noted_by}
@@ -16,6 +17,7 @@ use Rattle.san_book.specs.Plans.{when}
 use Rattle.san_book.specs.Steps.{happens, read_by, then_by, with_claim}
 use Rattle.san_book.specs.Journals.{booked_by, reads_of, replayed, stepped}
 use Rattle.san_book.specs.Laws.{AgreesIsAgreesWith, LogIsRead}
+use Rattle.san_log.proofs.Noted.{still_none}
 
 -- a claim that is set is there, and setting it again is setting it
 pub claim_set : (claims : List (Option Pending)) (w : ℕ) (p n : Pending) → claim_of claims w ≡ Some p → claim_of (slice_set claims w (Some n)) w ≡ Some n
@@ -33,18 +35,6 @@ claim_same [] w p e = refl
 claim_same (o ∷ os) zero p e = ap (λ (x : Option Pending). x ∷ os) (sym e)
 claim_same (o ∷ os) (suc w) p e = ap (λ (xs : List (Option Pending)). o ∷ xs) (claim_same os w p e)
 
-small_is : (v n : ℕ) → v ≤ n → nat_le v n ≡ true
-small_is v n h = grind (arith, nat_tests)
-
--- a log goes on with a place that isn't there
-find_front : (place : ℕ) (xs : List Entry) (e : Entry) → find place xs ≡ None → nat_eq e.0.0 place ≡ false → find place (xs ++ e ∷ []) ≡ None
-find_front place [] e h k = ap (λ b. found_by b e.1 None) k
-find_front place (x ∷ xs) e h k = both (nat_eq x.0.0 place) (find place xs) h (λ n. find_front place xs e n k)
-  where
-    both : (b : Bool) (o : Option ℕ) → found_by b x.1 o ≡ None → (o ≡ None → find place (xs ++ e ∷ []) ≡ None) → found_by b x.1 (find place (xs ++ e ∷ [])) ≡ None
-    both true o h f = absurd (cc)
-    both false o h f = f h
-
 -- none of a log's places is there yet
 abbrev pub AllNew : List Entry → List Entry → Type 0
 AllNew done [] = Unit {0}
@@ -54,13 +44,10 @@ not_here : (b : Bool) (v : ℕ) (o : Option ℕ) → found_by b v o ≡ None →
 not_here true v o h = absurd (cc)
 not_here false v o h = (refl, h)
 
-flip : (m n : ℕ) → nat_eq m n ≡ false → nat_eq n m ≡ false
-flip m n h = grind (arith, nat_tests)
-
 pub still_new : (done es : List Entry) (e : Entry) → AllNew done es → find e.0.0 es ≡ None → AllNew (done ++ e ∷ []) es
 still_new done [] e h k = tt
 still_new done (x ∷ xs) e h k = let n = not_here (nat_eq x.0.0 e.0.0) x.1 (find e.0.0 xs) k in
-    (find_front x.0.0 done e h.0 (flip x.0.0 e.0.0 n.0), still_new done xs e h.1 n.1)
+    (still_none x.0.0 done e h.0 (number_turned x.0.0 e.0.0 n.0), still_new done xs e h.1 n.1)
 
 pub all_new : (es : List Entry) → AllNew [] es
 all_new [] = tt
@@ -75,7 +62,7 @@ module _ {H S P : Type 0} (m : Machine H S P) (limits : Limits) (w j : ℕ) wher
   unfolding happens
   one_read c done e is free small =
       ap (λ (o : Option Pending). booked_by (Read w e.0 e.1) (read_by c w e.0 e.1 o)) is
-      ∙ (ap (λ b. booked_by (Read w e.0 e.1) (when b (Some (with_claim c w (Some (record { leaf = j; log = noted e.0 e.1 done })))))) (small_is e.1 MAX_TOKENS small)
+      ∙ (ap (λ b. booked_by (Read w e.0 e.1) (when b (Some (with_claim c w (Some (record { leaf = j; log = noted e.0 e.1 done })))))) (number_within e.1 MAX_TOKENS small)
       ∙ ap (λ o. Some (with_log c (noted_by o e done) (Read w e.0 e.1 ∷ []))) free)
 
   pub reads_from : (es : List Entry) (c : Core H P) (done : List Entry) → claim_of c.claims w ≡ Some (record { leaf = j; log = done }) → AllNew done es → AreOnce es → All (λ e. e.1 ≤ MAX_TOKENS) es → replayed m limits (reads_of w es) c ≡ Some (with_log c (done ++ es) (reads_of w es))

@@ -1,4 +1,5 @@
 -- Chains that are pushed to, cut and headed.
+use Rattle.san_base.proofs.NumberTests.{same_number, by_number}
 use Rattle.std.proofs.Common.{ℕ, zero, suc, ◌<◌, ◌≤◌, ◌≡◌, ◌≢◌, ◌∙◌, ◌||◌, inl, inr, ap, sym, refl, subst, List, [], ◌∷◌, ◌++◌, length, take, drop, Some, Bool, true, false, nat_eq, arith, slice_set}
 use Rattle.std.proofs.lemmas.Bool.{cases_lt, eq-eqb, ne_eqb, true≢false}
 use Rattle.std.proofs.lemmas.List.{get_or-set_other, get_or-set_same, get_or_past}
@@ -8,13 +9,13 @@ use Rattle.san_book.specs.Machines.{Machine, Reading}
 use Rattle.san_book.specs.Lines.{AreWrites}
 use Rattle.san_book.specs.Chains.{AllBelow, AllFit, AllMade, AreApart, Chain, Connects, chain_of, has}
 use Rattle.san_book.specs.Whole.{IsChain}
-use Rattle.san_book.proofs.Each.{by_number, either, same}
+use Rattle.san_book.proofs.Each.{either}
 use Rattle.san_book.proofs.Written.{no_chain, with_chain}
 
 -- chains after a change at a leaf
 pub set_chain : {P : Type 0} (chains : List (Chain P)) (j : ℕ) (c : Chain P) → j < length chains → (i : ℕ) → with_chain (chain_of chains) j c i ≡ chain_of (slice_set chains j c) i
 set_chain chains j c h i = by_bool (λ t. either t c (chain_of chains i) ≡ chain_of (slice_set chains j c) i) (nat_eq j i)
-    (λ k. sym (ap (λ (n : ℕ). chain_of (slice_set chains j c) n) (sym (same j i k)) ∙ get_or-set_same chains j c no_chain h))
+    (λ k. sym (ap (λ (n : ℕ). chain_of (slice_set chains j c) n) (sym (same_number j i k)) ∙ get_or-set_same chains j c no_chain h))
     (λ k. sym (get_or-set_other chains j i c no_chain (λ e. true≢false (sym (eq-eqb j i (sym e)) ∙ k))))
 
 -- a leaf whose chain has a piece is there

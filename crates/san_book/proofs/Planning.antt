@@ -1,4 +1,5 @@
 -- The least of the free leaves.
+use Rattle.san_base.proofs.NumberTests.{number_below, some_same}
 use Rattle.std.proofs.Common.{ℕ, suc, ◌+◌, ◌<◌, ◌≤◌, ◌≡◌, ◌∙◌, ◌&&◌, inl, inr, sym, refl, subst, not, List, [], ◌∷◌, length, Option, Some, None, Bool, true, false, nat_lt, nat_le, arith}
 use Rattle.std.specs.Prelude.{if◌then◌else◌}
 use Rattle.std.proofs.lemmas.Bool.Decides.{nat_tests}
@@ -40,9 +41,6 @@ none_from f j (y ∷ xs) e i l u =
       | inr d ↦ none_from f (suc j) xs n.1 i (omega (arith, l, d)) (omega (arith, u))
     ]
 
-same_some : (a b : ℕ) → Some a ≡ Some b → a ≡ b
-same_some a b e = cc
-
 -- numbers in order
 itself : (t j : ℕ) → first_by t t (nat_le j j) ≡ true
 itself t j = grind (arith, nat_tests)
@@ -73,7 +71,7 @@ first_here f j to t h is others = record {
   free = is;
   least = λ i u l k e. elim (cases_eq i j) [
     | inl s ↦ subst (λ (n : ℕ). first_by t u (nat_le j n) ≡ true) (sym s)
-        (subst (λ (n : ℕ). first_by t n (nat_le j j) ≡ true) (same_some t u (sym is ∙ subst (λ (n : ℕ). f n ≡ Some u) s e)) (itself t j))
+        (subst (λ (n : ℕ). first_by t n (nat_le j j) ≡ true) (some_same t u (sym is ∙ subst (λ (n : ℕ). f n ≡ Some u) s e)) (itself t j))
     | inr d ↦ others i u (omega (arith, l, d)) k e
   ];
 }
@@ -91,7 +89,7 @@ least_by f j to x (Some t) None h is some none e = subst (λ (y : ℕ × ℕ). I
     the_one : Some (t, j) ≡ Some x → (t, j) ≡ x
     the_one e = cc
 least_by f j to x (Some t) (Some r) h is some none e = by_bool (λ b. by_test b j t r ≡ Some x → IsLeastFrom f j to x) (nat_lt r.0 t)
-    (λ l e. subst (λ (y : ℕ × ℕ). IsLeastFrom f j to y) (one r e) (passed f j to r (λ u k. subst (λ (n : ℕ). first_by r.0 n (nat_le r.1 j) ≡ true) (same_some t u (sym is ∙ k)) (sooner r.0 t r.1 j l)) (some r refl)))
+    (λ l e. subst (λ (y : ℕ × ℕ). IsLeastFrom f j to y) (one r e) (passed f j to r (λ u k. subst (λ (n : ℕ). first_by r.0 n (nat_le r.1 j) ≡ true) (some_same t u (sym is ∙ k)) (sooner r.0 t r.1 j l)) (some r refl)))
     (λ l e. subst (λ (y : ℕ × ℕ). IsLeastFrom f j to y) (one (t, j) e) (first_here f j to t h is (λ i u a b k. not_later t r.0 r.1 u j i l ((some r refl).least i u a b k) (omega (arith, a)))))
     e
   where
@@ -120,9 +118,6 @@ free_is true b o t e = absurd (cc)
 free_is false true o t e = (refl, refl)
 free_is false false o t e = absurd (cc)
 
-less_is : (a b : ℕ) → nat_lt a b ≡ true → a < b
-less_is a b h = grind (arith, nat_tests)
-
 pub record IsFree {H P : Type 0} (limits : Limits) (c : Core H P) (j : ℕ) : Type 0 where
   pub there : j < length c.chains
   pub alone : is_claimed j c.claims ≡ false
@@ -132,4 +127,4 @@ pub planned_free : {H S P : Type 0} (m : Machine H S P) (limits : Limits) (c : C
 planned_free m limits c x e =
     let r = plans_least m limits c x e in
     let f = free_is (is_claimed x.1 c.claims) (nat_lt (length (chain_of c.chains x.1)) limits.window) (time_of (plan_of m limits c x.1)) x.0 r.free in
-    record { there = r.leaf; alone = f.0; room = less_is (length (chain_of c.chains x.1)) limits.window f.1 }
+    record { there = r.leaf; alone = f.0; room = number_below (length (chain_of c.chains x.1)) limits.window f.1 }

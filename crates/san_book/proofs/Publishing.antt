@@ -1,4 +1,5 @@
 -- A publication with its reads.
+use Rattle.san_base.proofs.NumberTests.{some_same}
 use Rattle.std.proofs.Common.{ℕ, suc, ◌+◌, ◌<◌, ◌≤◌, ◌≡◌, ◌∙◌, ap, sym, subst, List, [], ◌∷◌, ◌++◌, append_assoc, length, Option, Some, None, arith, slice_set}
 use Rattle.std.specs.Prelude.{All}
 use Rattle.std.proofs.lemmas.List.{length_push}
@@ -15,9 +16,6 @@ use Rattle.san_book.specs.Journals.{booked_by, reads_of, stepped}
 use Rattle.san_book.specs.Laws.{After, LogFits, PublicationIsRead, ReadsFit, after_reads, published}
 use Rattle.san_book.proofs.Noting.{AllNew, all_new, claim_set, claim_twice, log_is_read, one_read, still_new, with_log}
 use Rattle.san_book.proofs.Replaying.{one_step_more}
-
-some_same : {X : Type 0} (a b : X) → Some a ≡ Some b → a ≡ b
-some_same a b e = cc
 
 module _ {H S P : Type 0} (m : Machine H S P) (limits : Limits) (w j : ℕ) (kind : named.Kind) (time : ℕ) where
   fits_from : (es : List Entry) (c : Core H P) (done : List Entry) → claim_of c.claims w ≡ Some (record { leaf = j; log = done }) → AllNew done es → AreOnce es → All (λ e. e.1 ≤ MAX_TOKENS) es → length done + length es ≤ MAX_CELLS →

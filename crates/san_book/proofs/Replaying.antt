@@ -1,4 +1,5 @@
 -- A journal that replays goes on replaying; and what an opened core comes to.
+use Rattle.san_base.proofs.NumberTests.{some_same}
 use Rattle.std.proofs.Common.{ℕ, zero, suc, ◌+◌, ◌*◌, ◌≤◌, ◌≡◌, ◌∙◌, ap, sym, refl, subst, List, [], ◌∷◌, ◌++◌, append_assoc, length, map, replicate, Option, Some, None, arith}
 use Rattle.std.specs.Prelude.{slice_index}
 use Rattle.std.proofs.Math.Nat.{mul_comm, mul-le-mul_left}
@@ -23,6 +24,7 @@ use Rattle.san_book.proofs.Committing.{steps_commit}
 use Rattle.san_book.proofs.Counting.{steps_are_booked, steps_count}
 use Rattle.san_book.proofs.Keeping.{steps_keep}
 use Rattle.san_book.proofs.Parts.{chain_none}
+use Rattle.san_book.proofs.Walking.{read_after}
 use Rattle.san_book.proofs.Sizes.{SameSizes, sizes_stay}
 
 -- steps, and one more
@@ -37,13 +39,6 @@ one_step_more {H} {S} {P} m limits b c d (x ∷ ss) s e h = by_first (stepped m 
 after_of : {X : Type 0} (Q : X → Type 0) (o : Option X) → ((x : X) → o ≡ Some x → Q x) → After Q o
 after_of Q None f = tt
 after_of Q (Some x) f = f x refl
-
-some_same : {X : Type 0} (a b : X) → Some a ≡ Some b → a ≡ b
-some_same a b e = cc
-
-pub read_after : {X : Type 0} (Q : X → Type 0) (o : Option X) (x : X) → After Q o → o ≡ Some x → Q x
-read_after Q None x a e = absurd (cc)
-read_after Q (Some y) x a e = subst Q (some_same y x e) a
 
 pub journal_goes_on : {H S P : Type 0} (m : Machine H S P) → JournalGoesOn m
 journal_goes_on {H} {S} {P} m limits workers start c s h = after_of (Replays m limits workers start) (stepped m limits s c) (λ d e.

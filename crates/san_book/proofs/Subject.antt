@@ -4,6 +4,7 @@ use Rattle.std.specs.Prelude.{All, Result, Ok, Err, slice_get, slice_index}
 use Rattle.std.proofs.lemmas.Bool.{eq-eqb, eqb-true, true≢false}
 use Rattle.std.proofs.lemmas.List.{append-nil, length-set}
 use Rattle.san_base.proofs.Bools.{and_true, both_true}
+use Rattle.san_base.proofs.NumberTests.{same_number, number_itself, number_turned}
 use Rattle.san_base.specs.declared.ending.Trap.{Trap}
 use Rattle.san_base.specs.declared.piece.Kind as named
 use Rattle.san_log.specs.Logs.{Entry}
@@ -16,12 +17,12 @@ use Rattle.san_law.specs.Piece.{Fire, Kind, LeafState, Outcome, Refresh, Settle,
 use Rattle.san_law.specs.Core as law
 use Rattle.san_law.specs.Lawful.{AllApart, AreDistinct, IsLaid}
 use Rattle.san_law.proofs.Frames.{others_stay, own_is_the_pieces, unwritten_stay}
-use Rattle.san_law.proofs.Places.{length_put}
+use Rattle.san_law.proofs.Places.{length_put, or_next_none}
 use Rattle.san_book.specs.Lines.{AreWrites, agrees, is_value, write_of}
 use Rattle.san_book.specs.Plans.{when}
 use Rattle.san_book.specs.Whole.{IsMade}
 use Rattle.san_book.specs.Nets.{Ahead, NetIsLawful, ahead, is_logged, is_there, logged, of_outcome, places_in, same_bool, same_list, same_row, same_state, same_timer, shared_in, values_from}
-use Rattle.san_book.proofs.Each.{either, eq_self, flip, same}
+use Rattle.san_book.proofs.Each.{either}
 use Rattle.san_book.proofs.Noting.{value_is}
 
 -- states that are the same are equal
@@ -49,16 +50,16 @@ row_is a b h =
     let t = both_true (same_list same_timer a.timers b.timers) (same_list nat_eq a.delays b.delays && same_list nat_eq a.cases b.cases) h in
     let u = both_true (same_list nat_eq a.delays b.delays) (same_list nat_eq a.cases b.cases) t.1 in
     ap (λ (x : List (Option Timer)). record { timers = x; delays = a.delays; cases = a.cases }) (list_is same_timer timer_is a.timers b.timers t.0)
-    ∙ (ap (λ (x : List ℕ). record { timers = b.timers; delays = x; cases = a.cases }) (list_is nat_eq same a.delays b.delays u.0)
-    ∙ ap (λ (x : List ℕ). record { timers = b.timers; delays = b.delays; cases = x }) (list_is nat_eq same a.cases b.cases u.1))
+    ∙ (ap (λ (x : List ℕ). record { timers = b.timers; delays = x; cases = a.cases }) (list_is nat_eq same_number a.delays b.delays u.0)
+    ∙ ap (λ (x : List ℕ). record { timers = b.timers; delays = b.delays; cases = x }) (list_is nat_eq same_number a.cases b.cases u.1))
 
 pub state_is : (a b : LeafState) → same_state a b ≡ true → a ≡ b
 state_is a b h =
     let t = both_true (same_list nat_eq a.values b.values) (same_row a.row b.row && same_list nat_eq a.seen b.seen) h in
     let u = both_true (same_row a.row b.row) (same_list nat_eq a.seen b.seen) t.1 in
-    ap (λ (x : List ℕ). record { values = x; row = a.row; seen = a.seen }) (list_is nat_eq same a.values b.values t.0)
+    ap (λ (x : List ℕ). record { values = x; row = a.row; seen = a.seen }) (list_is nat_eq same_number a.values b.values t.0)
     ∙ (ap (λ (x : Row). record { values = b.values; row = x; seen = a.seen }) (row_is a.row b.row u.0)
-    ∙ ap (λ (x : List ℕ). record { values = b.values; row = b.row; seen = x }) (list_is nat_eq same a.seen b.seen u.1))
+    ∙ ap (λ (x : List ℕ). record { values = b.values; row = b.row; seen = x }) (list_is nat_eq same_number a.seen b.seen u.1))
 
 -- and each is the same as itself
 bool_itself : (b : Bool) → same_bool b b ≡ true
@@ -71,32 +72,26 @@ list_itself test f (x ∷ xs) = and_true (test x x) (same_list test xs xs) (f x)
 
 timer_itself : (a : Option Timer) → same_timer a a ≡ true
 timer_itself None = refl
-timer_itself (Some a) = and_true (nat_eq a.due a.due) (same_bool a.held a.held) (eq_self a.due) (bool_itself a.held)
+timer_itself (Some a) = and_true (nat_eq a.due a.due) (same_bool a.held a.held) (number_itself a.due) (bool_itself a.held)
 
 row_itself : (a : Row) → same_row a a ≡ true
 row_itself a = and_true (same_list same_timer a.timers a.timers) (same_list nat_eq a.delays a.delays && same_list nat_eq a.cases a.cases) (list_itself same_timer timer_itself a.timers)
-    (and_true (same_list nat_eq a.delays a.delays) (same_list nat_eq a.cases a.cases) (list_itself nat_eq eq_self a.delays) (list_itself nat_eq eq_self a.cases))
+    (and_true (same_list nat_eq a.delays a.delays) (same_list nat_eq a.cases a.cases) (list_itself nat_eq number_itself a.delays) (list_itself nat_eq number_itself a.cases))
 
 pub state_itself : (a : LeafState) → same_state a a ≡ true
-state_itself a = and_true (same_list nat_eq a.values a.values) (same_row a.row a.row && same_list nat_eq a.seen a.seen) (list_itself nat_eq eq_self a.values)
-    (and_true (same_row a.row a.row) (same_list nat_eq a.seen a.seen) (row_itself a.row) (list_itself nat_eq eq_self a.seen))
-
--- writes are of shared places, each once
-next_out : (b : Bool) (o : Option ℕ) → or_next b o ≡ None → (b ≡ false) × (o ≡ None)
-next_out true o h = absurd (cc)
-next_out false None h = (refl, refl)
-next_out false (Some n) h = absurd (cc)
+state_itself a = and_true (same_list nat_eq a.values a.values) (same_row a.row a.row && same_list nat_eq a.seen a.seen) (list_itself nat_eq number_itself a.values)
+    (and_true (same_row a.row a.row) (same_list nat_eq a.seen a.seen) (row_itself a.row) (list_itself nat_eq number_itself a.seen))
 
 write_out : (q : ℕ) (sets : ℕ → Bool) (p : ℕ) (ss : List Slot) (vs : List ℕ) → index_of q (map place_of ss) ≡ None → write_of q (writes_from sets p ss vs) ≡ None
 write_out q sets p [] vs h = refl
 write_out q sets p (s ∷ ss) [] h = refl
-write_out q sets p (Private r ∷ ss) (v ∷ vs) h = write_out q sets (suc p) ss vs (next_out (nat_eq q r) (index_of q (map place_of ss)) h).1
+write_out q sets p (Private r ∷ ss) (v ∷ vs) h = write_out q sets (suc p) ss vs (or_next_none (nat_eq q r) (index_of q (map place_of ss)) h).1
 write_out q sets p (Shared r ∷ ss) (v ∷ vs) h =
-    let n = next_out (nat_eq q r) (index_of q (map place_of ss)) h in
+    let n = or_next_none (nat_eq q r) (index_of q (map place_of ss)) h in
     by_set (sets p) (write_out q sets (suc p) ss vs n.1) n.0
   where
     by_set : (b : Bool) → write_of q (writes_from sets (suc p) ss vs) ≡ None → nat_eq q r ≡ false → write_of q (with_write b (r, v) (writes_from sets (suc p) ss vs)) ≡ None
-    by_set true e d = ap (λ t. either t (Some v) (write_of q (writes_from sets (suc p) ss vs))) (flip q r d) ∙ e
+    by_set true e d = ap (λ t. either t (Some v) (write_of q (writes_from sets (suc p) ss vs))) (number_turned q r d) ∙ e
     by_set false e d = e
 
 fits_from : (n : ℕ) (others : ℕ → Type 0) (sets : ℕ → Bool) (p : ℕ) (ss : List Slot) (vs : List ℕ) → AllApart n others ss → AreDistinct (map place_of ss) → AreWrites n (writes_from sets p ss vs)
@@ -181,17 +176,17 @@ log_is (q ∷ qs) [] shared h a = absurd (true≢false (sym h))
 log_is (q ∷ qs) (e ∷ es) shared h a =
     let b = both_true (nat_eq e.0.0 q) (is_logged qs es) h in
     let k = both_true (is_value e.1 (slice_get shared e.0.0)) (agrees (slice_get shared) es) a in
-    let place : e.0.0 ≡ q = same e.0.0 q b.0 in
+    let place : e.0.0 ≡ q = same_number e.0.0 q b.0 in
     let v : e.1 ≡ slice_index shared q = value_of shared q e.1 (subst (λ (n : ℕ). slice_get shared n ≡ Some e.1) place (value_is e.1 (slice_get shared e.0.0) k.0)) in
     ap (λ (x : Entry). x ∷ es) (entry_is e q (slice_index shared q) place v) ∙ ap (λ (xs : List Entry). (record { 0 = q }, slice_index shared q) ∷ xs) (log_is qs es shared b.1 k.1)
 
 logged_is : (qs : List ℕ) (shared : List ℕ) → is_logged qs (logged qs shared) ≡ true
 logged_is [] shared = refl
-logged_is (q ∷ qs) shared = ap (λ b. b && is_logged qs (logged qs shared)) (eq_self q) ∙ logged_is qs shared
+logged_is (q ∷ qs) shared = ap (λ b. b && is_logged qs (logged qs shared)) (number_itself q) ∙ logged_is qs shared
 
 there : (shared : List ℕ) (q : ℕ) → q < length shared → is_value (slice_index shared q) (slice_get shared q) ≡ true
 there [] q h = absurd (omega (arith, h))
-there (x ∷ xs) zero h = eq_self x
+there (x ∷ xs) zero h = number_itself x
 there (x ∷ xs) (suc q) h = there xs q (omega (arith, h))
 
 logged_agrees : (n : ℕ) (others : ℕ → Type 0) (ss : List Slot) (shared : List ℕ) → length shared ≡ n → AllApart n others ss → agrees (slice_get shared) (logged (shared_in ss) shared) ≡ true

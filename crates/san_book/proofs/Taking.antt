@@ -1,4 +1,5 @@
 -- A core that takes a piece, from a chain or made anew, stays whole.
+use Rattle.san_base.proofs.NumberTests.{by_number}
 use Rattle.std.proofs.Common.{ℕ, zero, suc, ◌<◌, ◌≤◌, ◌≡◌, ◌≢◌, ◌∙◌, ◌||◌, sym, refl, subst, not, List, [], ◌∷◌, length, Bool, true, false, nat_lt, arith, slice_index, slice_set}
 use Rattle.std.proofs.lemmas.Bool.{true≢false}
 use Rattle.std.proofs.lemmas.List.{length-set}
@@ -9,7 +10,7 @@ use Rattle.san_book.specs.Chains.{AllMade, Chain, Connects, chain_of, without_pi
 use Rattle.san_book.specs.Cores.{Core}
 use Rattle.san_book.specs.Steps.{cut_at, fallen, falls, redone, taken_anew, taken_head}
 use Rattle.san_book.specs.Whole.{IsChain, IsLawful, IsWhole}
-use Rattle.san_book.proofs.Each.{by_number, committed_kept, committed_new, length_each}
+use Rattle.san_book.proofs.Each.{committed_kept, committed_new, length_each}
 use Rattle.san_book.proofs.Moves.{exact_commit, exact_same, lines_less}
 use Rattle.san_book.proofs.Parts.{chain_grow, chain_rest, chains_by, set_chain, within}
 use Rattle.san_book.proofs.Cutting.{cut_whole}

@@ -6,7 +6,7 @@ use Rattle.std.proofs.lemmas.Bool.{eq-eqb}
 use Rattle.san_line.specs.declared.version.Version.{Version}
 use Rattle.san_line.specs.Lines.{before, find, first_by, found_by, is_key}
 use Rattle.san_line.specs.Ordered.{AllAfter}
-use Rattle.san_line.proofs.Ordered.{before_pass, by_bool}
+use Rattle.san_line.proofs.Ordered.{before_pass, by_bool, key_is}
 use Rattle.san_book.specs.Machines.{Machine}
 use Rattle.san_book.specs.Lines.{Line, line_of}
 use Rattle.san_book.specs.Chains.{Chain, chain_of, written}
@@ -48,15 +48,8 @@ same_first x y xs ys a b f = by_both
     by_both (inr h) (inl e) = sym e
     by_both (inr h) (inr k) = absurd (never_both x y h k)
 
--- behind the same first version, the rest has the same look-ups
-key_here : (leaf pos : ℕ) (x : Version) → is_key leaf pos x ≡ true → (x.leaf.0 ≡ leaf) × (x.pos ≡ pos)
-key_here leaf pos x h = both x.leaf.0 x.pos h
-  where
-    both : (a b : ℕ) → (nat_eq a leaf && nat_eq b pos) ≡ true → (a ≡ leaf) × (b ≡ pos)
-    both a b h = (grind (arith, nat_tests), grind (arith, nat_tests))
-
 none_here : (leaf pos : ℕ) (x : Version) (xs : List Version) → find x.leaf.0 x.pos xs ≡ None → is_key leaf pos x ≡ true → find leaf pos xs ≡ None
-none_here leaf pos x xs n h = let k = key_here leaf pos x h in
+none_here leaf pos x xs n h = let k = key_is leaf pos x h in
     sym (ap (λ (l : ℕ). find l x.pos xs) k.0 ∙ ap (λ (p : ℕ). find leaf p xs) k.1) ∙ n
 
 same_rest : (x : Version) (xs ys : List Version) (leaf pos : ℕ) → find x.leaf.0 x.pos xs ≡ None → find x.leaf.0 x.pos ys ≡ None → find leaf pos (x ∷ xs) ≡ find leaf pos (x ∷ ys) → find leaf pos xs ≡ find leaf pos ys

@@ -4,6 +4,7 @@ use Rattle.std.specs.Prelude.{slice_get}
 use Rattle.std.proofs.lemmas.Bool.Decides.{nat_tests}
 use Rattle.std.proofs.lemmas.Bool.{true≢false}
 use Rattle.san_base.proofs.Bools.{both_true}
+use Rattle.san_base.proofs.NumberTests.{number_below, some_same}
 use Rattle.san_base.specs.declared.limits.Limits.{Limits}
 use Rattle.san_base.specs.declared.limits.TheConstants.{MAX_TOKENS}
 use Rattle.san_base.specs.declared.numbers.PlaceId.{PlaceId}
@@ -20,9 +21,6 @@ use Rattle.san_book.specs.Plans.{planned, when}
 use Rattle.san_book.specs.Steps.{all_committed, chain_end, claimed_by, committed, committed_by, cut_at, goes_on, happens, has_none, head_by, is_finished, late_by, may_claim, need_in, published_as, published_by, pushed, pushed_by, read_by, redone, redone_by, taken_head, then_by, with_claim}
 use Rattle.san_book.specs.Laws.{After}
 use Rattle.san_book.proofs.Planning.{IsFree, planned_free}
-
-pub less_than : (a b : ℕ) → nat_lt a b ≡ true → a < b
-less_than a b h = grind (arith, nat_tests)
 
 at_most : (a b : ℕ) → nat_le a b ≡ true → a ≤ b
 at_most a b h = grind (arith, nat_tests)
@@ -73,7 +71,7 @@ may_where m limits c w h =
     let b = both_true (nat_lt (length c.journal) MAX_STEPS_TO_CLAIM) (nat_lt c.rollbacks limits.rollbacks && (nat_lt w (length c.claims) && has_none (claim_of c.claims w))) a.1 in
     let d = both_true (nat_lt c.rollbacks limits.rollbacks) (nat_lt w (length c.claims) && has_none (claim_of c.claims w)) b.1 in
     let e = both_true (nat_lt w (length c.claims)) (has_none (claim_of c.claims w)) d.1 in
-    record { steps = less_than (length c.journal) MAX_STEPS_TO_CLAIM b.0; rollbacks = less_than c.rollbacks limits.rollbacks d.0; worker = less_than w (length c.claims) e.0; idle = idle_is (claim_of c.claims w) e.1 }
+    record { steps = number_below (length c.journal) MAX_STEPS_TO_CLAIM b.0; rollbacks = number_below c.rollbacks limits.rollbacks d.0; worker = number_below w (length c.claims) e.0; idle = idle_is (claim_of c.claims w) e.1 }
 
 -- where the head of a chain is committed
 pub record IsHead {H S P : Type 0} (m : Machine H S P) (limits : Limits) (c : Core H P) (j : ℕ) (kind : Kind) (time : ℕ) (x : ℕ × P) (rest : Chain P) : Type 0 where
@@ -97,12 +95,9 @@ module _ {H S P : Type 0} (m : Machine H S P) (limits : Limits) (c : Core H P) (
   pub after_commit : After Q (committed m limits c)
   after_commit = after_when Q (goes_on m limits c) (committed_by m c (need_in m limits c)) (λ e. need_then (goes_where m limits c e) (need_in m limits c) refl)
 
-some_same : {X : Type 0} (a b : X) → Some a ≡ Some b → a ≡ b
-some_same a b e = cc
-
-from_after : {X : Type 0} (Q : X → Type 0) (o : Option X) (x : X) → After Q o → o ≡ Some x → Q x
-from_after Q None x a e = absurd (cc)
-from_after Q (Some y) x a e = subst Q (some_same y x e) a
+pub read_after : {X : Type 0} (Q : X → Type 0) (o : Option X) (x : X) → After Q o → o ≡ Some x → Q x
+read_after Q None x a e = absurd (cc)
+read_after Q (Some y) x a e = subst Q (some_same y x e) a
 
 -- so many commits, each of which leaves one fewer to come
 pub after_commits : {H S P : Type 0} (m : Machine H S P) (limits : Limits) (R : ℕ → Core H P → Type 0) →
@@ -110,7 +105,7 @@ pub after_commits : {H S P : Type 0} (m : Machine H S P) (limits : Limits) (R : 
     (n : ℕ) (c : Core H P) → R n c → After (R 0) (all_committed m limits n c)
 after_commits m limits R f zero c h = h
 after_commits m limits R f (suc n) c h = after_then (R 0) (committed m limits c) (all_committed m limits n) (λ d e.
-    after_commits m limits R f n d (from_after (R n) (committed m limits c) d (after_commit m limits c (R n) (λ j kind time x rest i. f n c j kind time x rest h i)) e))
+    after_commits m limits R f n d (read_after (R n) (committed m limits c) d (after_commit m limits c (R n) (λ j kind time x rest i. f n c j kind time x rest h i)) e))
 
 -- what is to be shown of each kind of step
 pub record Handles {H S P : Type 0} (m : Machine H S P) (limits : Limits) (c : Core H P) (Q : Step → Core H P → Type 0) : Type 0 where
@@ -158,6 +153,6 @@ module _ {H S P : Type 0} (m : Machine H S P) (limits : Limits) (c : Core H P) (
   handled (Publish w kind time) = publish_then w kind time (claim_of c.claims w) refl
   handled (Late w) = late_then w (claim_of c.claims w) refl
   handled (Cut w j) = let k : ℕ = current m.reading c.lines j (chain_of c.chains j) in
-      after_when (Q (Cut w j)) (nat_lt k (length (chain_of c.chains j))) (Some (cut_at m c j k)) (λ e. f.cut w j k (less_than k (length (chain_of c.chains j)) e))
+      after_when (Q (Cut w j)) (nat_lt k (length (chain_of c.chains j))) (Some (cut_at m c j k)) (λ e. f.cut w j k (number_below k (length (chain_of c.chains j)) e))
   handled (Commit w n) = after_when (Q (Commit w n)) (nat_le 1 n && nat_le n MAX_COMMIT) (all_committed m limits n c) (λ e. f.commit w n (at_most 1 n (both_true (nat_le 1 n) (nat_le n MAX_COMMIT) e).0))
   handled (Redo w) = after_when (Q (Redo w)) (goes_on m limits c) (redone_by m c (need_in m limits c)) (λ e. redo_then w (need_in m limits c) (goes_where m limits c e) refl)

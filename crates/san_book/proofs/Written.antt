@@ -4,12 +4,13 @@ use Rattle.std.specs.Prelude.{if◌then◌else◌}
 use Rattle.std.proofs.lemmas.Bool.Decides.{nat_tests}
 use Rattle.std.proofs.lemmas.Bool.{true≢false}
 use Rattle.san_base.proofs.Bools.{or_none}
+use Rattle.san_base.proofs.NumberTests.{same_number, number_itself, number_turned}
 use Rattle.san_line.specs.declared.version.Version.{Version}
 use Rattle.san_line.proofs.Ordered.{by_bool, hidden}
 use Rattle.san_book.specs.Machines.{Reading}
 use Rattle.san_book.specs.Lines.{write_of}
 use Rattle.san_book.specs.Chains.{AreApart, Chain, has, version_of, written}
-use Rattle.san_book.proofs.Each.{either, eq_self, flip, same}
+use Rattle.san_book.proofs.Each.{either}
 
 -- a chain without pieces
 abbrev pub no_chain : {P : Type 0} → Chain P
@@ -49,16 +50,16 @@ written_free r j q pos (x ∷ xs) h =
 
 pub written_less : {S P : Type 0} (r : Reading S P) (j q pos : ℕ) (a b : Chain P) (x : ℕ × P) → AreApart (a ++ x ∷ b) → written r j q pos (a ++ b) ≡ hidden (nat_eq x.0 pos) (written r j q pos (a ++ x ∷ b))
 written_less r j q pos [] b x h = by_bool (λ t. written r j q pos b ≡ hidden t (either t (version_of (r.time x.1) j x.0 (write_of q (r.writes x.1))) (written r j q pos b))) (nat_eq x.0 pos)
-    (λ e. written_free r j q pos b (subst (λ (n : ℕ). has n b ≡ false) (same x.0 pos e) h.0))
+    (λ e. written_free r j q pos b (subst (λ (n : ℕ). has n b ≡ false) (same_number x.0 pos e) h.0))
     (λ e. refl)
 written_less r j q pos (y ∷ a) b x h = by_bool (λ t. either t (version_of (r.time y.1) j y.0 (write_of q (r.writes y.1))) (written r j q pos (a ++ b)) ≡ hidden (nat_eq x.0 pos) (either t (version_of (r.time y.1) j y.0 (write_of q (r.writes y.1))) (written r j q pos (a ++ x ∷ b)))) (nat_eq y.0 pos)
-    (λ e. let n : nat_eq x.0 pos ≡ false = subst (λ (n : ℕ). nat_eq x.0 n ≡ false) (same y.0 pos e) (has_here a b x y.0 h.0) in
+    (λ e. let n : nat_eq x.0 pos ≡ false = subst (λ (n : ℕ). nat_eq x.0 n ≡ false) (same_number y.0 pos e) (has_here a b x y.0 h.0) in
     sym (ap (λ t. hidden t (version_of (r.time y.1) j y.0 (write_of q (r.writes y.1)))) n))
     (λ e. written_less r j q pos a b x h.1)
 
 pub written_at : {S P : Type 0} (r : Reading S P) (j q : ℕ) (a b : Chain P) (x : ℕ × P) → AreApart (a ++ x ∷ b) → written r j q x.0 (a ++ x ∷ b) ≡ version_of (r.time x.1) j x.0 (write_of q (r.writes x.1))
-written_at r j q [] b x h = ap (λ t. either t (version_of (r.time x.1) j x.0 (write_of q (r.writes x.1))) (written r j q x.0 b)) (eq_self x.0)
-written_at r j q (y ∷ a) b x h = ap (λ t. either t (version_of (r.time y.1) j y.0 (write_of q (r.writes y.1))) (written r j q x.0 (a ++ x ∷ b))) (flip x.0 y.0 (has_here a b x y.0 h.0)) ∙ written_at r j q a b x h.1
+written_at r j q [] b x h = ap (λ t. either t (version_of (r.time x.1) j x.0 (write_of q (r.writes x.1))) (written r j q x.0 b)) (number_itself x.0)
+written_at r j q (y ∷ a) b x h = ap (λ t. either t (version_of (r.time y.1) j y.0 (write_of q (r.writes y.1))) (written r j q x.0 (a ++ x ∷ b))) (number_turned x.0 y.0 (has_here a b x y.0 h.0)) ∙ written_at r j q a b x h.1
 
 swap : (s t : Bool) (u v w : Option Version) → (s ≡ true → t ≡ false) → either s u (either t v w) ≡ either t v (either s u w)
 swap true true u v w f = absurd (true≢false (f refl))

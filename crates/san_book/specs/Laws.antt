@@ -1,7 +1,7 @@
 -- The law of the bookkeeping.
 use Rattle.std.specs.Prelude.{ℕ, suc, ◌+◌, ◌*◌, ◌≡◌, ◌≤◌, ◌<◌, nat_le, List, [], ◌∷◌, ◌++◌, length, Option, Some, None, true, false, slice_get, slice_set, ◌↔◌, IsTrue}
 use Rattle.san_base.specs.declared.limits.Limits.{Limits}
-use Rattle.san_base.specs.declared.limits.TheConstants.{MAX_CELLS, MAX_LEAVES, MAX_WINDOW}
+use Rattle.san_base.specs.declared.limits.TheConstants.{MAX_CELLS, MAX_LEAVES, MAX_WINDOW, MAX_WORKERS}
 use Rattle.san_base.specs.declared.piece.Kind as named
 use Rattle.san_log.specs.Logs.{AgreesWith, Entry}
 use Rattle.san_log.specs.Once.{AreNoted}
@@ -107,7 +107,7 @@ RunsAreBrief {H} {S} {P} m = (limits : Limits) (ss : List Step) (c d : Core H P)
 
 -- so with at most 64 workers beside the caller and a window of at most 64, their journal has at most 1,400,000 steps
 abbrev pub JournalIsShort : {H S P : Type 0} → Machine H S P → Type 0
-JournalIsShort {H} {S} {P} m = (limits : Limits) (workers : ℕ) (start : H) (ss : List Step) (c : Core H P) → workers ≤ 64 → m.leaves start ≤ MAX_LEAVES → limits.window ≤ MAX_WINDOW → HasValues m start →
+JournalIsShort {H} {S} {P} m = (limits : Limits) (workers : ℕ) (start : H) (ss : List Step) (c : Core H P) → workers ≤ MAX_WORKERS → m.leaves start ≤ MAX_LEAVES → limits.window ≤ MAX_WINDOW → HasValues m start →
     ReadsFit m limits ss (opened m workers start) → replayed m limits ss (opened m workers start) ≡ Some c → length c.journal ≤ MAX_JOURNAL
 
 -- a core that goes on can redo

@@ -21,7 +21,7 @@ use Rattle.san_check.specs.declared.known.Known.{Known}
 use Rattle.san_check.specs.Tables.{found, is_known, declared}
 use Rattle.san_check.specs.walk.Entries.{code}
 use Rattle.san_check.specs.walk.Expression.{Places}
-use Rattle.san_check.specs.walk.Activity.{Acts, act_code, act_entries}
+use Rattle.san_check.specs.walk.Activity.{ActNames, act_code, act_entries}
 use Rattle.san_check.specs.walk.Atomic.{places_entries, all_places, acts_entries, all_acts}
 use Rattle.san_check.specs.walk.Composition.{Models, nothing, known_as, name_code, name_of, model_entries, known_of, with_model, models_entries, all_models, model_code}
 use Rattle.san_check.specs.walk.Reward.{rewards_entries}
@@ -43,14 +43,14 @@ use Rattle.san_check.proofs.PlacedLemmas.{places_placed, found_new}
 use Rattle.san_check.proofs.KindLemmas.{activity_good}
 use Rattle.san_check.proofs.RewardLemmas.{times, rewards_good}
 
-record GoodActs (places : Places) (cells : CellTable) (k n : ℕ) (acts : Acts) (ds : List ActDecl) : Type 0 where
+record GoodActs (places : Places) (cells : CellTable) (k n : ℕ) (acts : ActNames) (ds : List ActDecl) : Type 0 where
   pub few : n + length ds ≤ 256
   pub known : length (all_acts acts ds) ≤ length acts + length ds
   pub names : All (λ (x : Named). IsTrue (is_name x.0)) (acts_of cells ds)
   pub activities : All (λ (x : Named). IsAcceptedActivity k x.1) (acts_of cells ds)
   pub fresh : Fresh acts (map (λ (x : Named). x.0) (acts_of cells ds))
 
-acts_good : (places : Places) (cells : CellTable) (k n : ℕ) (acts : Acts) → Placed places cells k → (ds : List ActDecl) → n ≤ 256 → All IsFormedAct ds → Free (acts_entries places acts n ds) → GoodActs places cells k n acts ds
+acts_good : (places : Places) (cells : CellTable) (k n : ℕ) (acts : ActNames) → Placed places cells k → (ds : List ActDecl) → n ≤ 256 → All IsFormedAct ds → Free (acts_entries places acts n ds) → GoodActs places cells k n acts ds
 unfolding act_code
 acts_good places cells k n acts at [] lt formed f = record {
   few = omega (arith, lt);
@@ -137,7 +137,7 @@ accepted s formed h =
     let behind = free_right (models_entries [] 0 s.models) (model_code all s.system ∷ rewards_entries all [] 0 s.rewards) free in
     atomics_good all [] 0 s.rewards s.models refl (free_left (models_entries [] 0 s.models) (model_code all s.system ∷ rewards_entries all [] 0 s.rewards) free) formed.models behind.1
 
-acts_few : (places : Places) (acts : Acts) (n : ℕ) (ds : List ActDecl) → n ≤ 256 → Free (acts_entries places acts n ds) → n + length ds ≤ 256
+acts_few : (places : Places) (acts : ActNames) (n : ℕ) (ds : List ActDecl) → n ≤ 256 → Free (acts_entries places acts n ds) → n + length ds ≤ 256
 unfolding act_code
 acts_few places acts n [] lt f = omega (arith, lt)
 acts_few places acts n (d ∷ ds) lt f =

@@ -2,7 +2,7 @@
 use Rattle.std.proofs.Common.{◌≡◌, ℕ, zero, suc, ◌≤◌, List, [], ◌∷◌, length, map, Result, Ok, Err, All, subst, arith}
 use Rattle.std.proofs.lemmas.List.{length-map}
 use Rattle.std.proofs.lemmas.List.Elements.{All-cons, All-nil, All-head, All-tail}
-use Rattle.san_lex.specs.Lexer.{Front, Gap, Token, Broken, Fault, Located, front, more, with_token, grown, lex, tokens, word_of}
+use Rattle.san_lex.specs.Lexer.{Front, Gap, Token, Broken, TokenFault, Located, front, more, with_token, grown, lex, tokens, word_of}
 use Rattle.san_lex.specs.Words.{AreWords}
 use Rattle.san_lex.proofs.SaidLemmas.{said_fits, fits_said}
 use Rattle.san_lex.proofs.WordLemmas.{lex_words}
@@ -22,19 +22,19 @@ use Rattle.san_check.proofs.NamedLemmas.{HasName, ModelNames, models_named, syst
 
 -- ---- no more tokens than bytes
 
-abbrev Within : ℕ → Result (List Located) Fault → Type 0
+abbrev Within : ℕ → Result (List Located) TokenFault → Type 0
 Within n (Ok ps) = length ps ≤ n
 Within n (Err f) = Unit {0}
 
-with_within : (n : ℕ) (p : Located) (r : Result (List Located) Fault) → Within n r → Within (suc n) (with_token p r)
+with_within : (n : ℕ) (p : Located) (r : Result (List Located) TokenFault) → Within n r → Within (suc n) (with_token p r)
 with_within n p (Ok ps) h = omega (arith, h)
 with_within n p (Err f) h = tt
 
-more_within : (n : ℕ) (r : Result (List Located) Fault) → Within n r → Within (suc n) r
+more_within : (n : ℕ) (r : Result (List Located) TokenFault) → Within n r → Within (suc n) r
 more_within n (Ok ps) h = omega (arith, h)
 more_within n (Err f) h = tt
 
-grown_within : (n at : ℕ) (f : Front) (r : Result (List Located) Fault) → Within n r → Within (suc n) (grown f at r)
+grown_within : (n at : ℕ) (f : Front) (r : Result (List Located) TokenFault) → Within n r → Within (suc n) (grown f at r)
 grown_within n at (Gap k) r h = more_within n r h
 grown_within n at (Token w k) r h = with_within n (record { word = w; start = at; end = _ }) r h
 grown_within n at (Broken f) r h = tt

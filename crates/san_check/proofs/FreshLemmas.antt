@@ -1,12 +1,10 @@
 -- Names that a table takes one by one stand in their list once.
+use Rattle.san_base.proofs.NumberTests.{some_same}
 use Rattle.std.proofs.Common.{◌≡◌, ℕ, zero, suc, Bool, true, false, List, [], ◌∷◌, Some, is_some, refl, sym, ap, subst, ◌∙◌, true≢false}
 use Rattle.std.specs.Prelude.{slice_get}
 use Rattle.san_net.specs.Apart.{AreApart}
 use Rattle.san_check.specs.Tables.{Table, is_known, declared}
 use Rattle.san_check.proofs.NumberLemmas.{known_itself, known_stays}
-
-pub some_same : {A : Type 0} (x y : A) → Some x ≡ Some y → x ≡ y
-some_same x y h = cc
 
 -- what stands nowhere in a list stands in front of it once
 apart_cons : {X : Type 0} (x : X) (xs : List X) → ((j : ℕ) → slice_get xs j ≡ Some x → ⊥) → AreApart xs → AreApart (x ∷ xs)

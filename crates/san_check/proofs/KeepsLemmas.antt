@@ -21,7 +21,7 @@ use Rattle.san_check.specs.declared.place.Place.{Place}
 use Rattle.san_check.specs.Tables.{Pairs, found, is_known, declared, has_pair, all_paired}
 use Rattle.san_check.specs.walk.Entries.{code, ◌else◌}
 use Rattle.san_check.specs.walk.Expression.{Places}
-use Rattle.san_check.specs.walk.Activity.{Acts}
+use Rattle.san_check.specs.walk.Activity.{ActNames}
 use Rattle.san_check.specs.walk.Composition.{Models, Children, children_entries, all_children, shown_by, place_in, part_place, differs, initial_differs, length_differs, part_code, shared_code, parts_entries, first_place, shown_as, shares_entries, with_share, all_shares, shown_code, shown_entries, with_shown, all_shown, model_code, model_entries, known_of, name_code, name_of, models_entries, with_model, all_models}
 use Rattle.san_check.specs.walk.Reward.{rewards_entries}
 use Rattle.san_check.specs.walk.Model.{syntax_entries, syntax_fault}
@@ -61,7 +61,7 @@ shared_free : (children : Children) (taken : Pairs) (first : Option Place) (part
 unfolding shared_code
 shared_free children taken first part h = of_place (part_place children part) first (has_pair taken part) h
 
-child_known : (children : Children) (earlier : Acts) (child : List ℕ) → part_code children earlier child ≡ None → is_known children child ≡ true
+child_known : (children : Children) (earlier : ActNames) (child : List ℕ) → part_code children earlier child ≡ None → is_known children child ≡ true
 unfolding part_code
 child_known children earlier child h = not_false (is_known children child) (code_free 25 (not (is_known children child)) (else_first (code 25 (not (is_known children child))) (code 27 (is_known earlier child)) h))
 
@@ -80,7 +80,7 @@ pub record Part (children : Children) (first : Option Place) (c p : ℕ) : Type 
   pub is : part_place children part ≡ Some place
   pub like : Like first place
 
-part_of : (children : Children) (taken : Pairs) (first : Option Place) (earlier : Acts) (ps : List (List ℕ × List ℕ)) (c p : ℕ) → Free (parts_entries children taken first earlier ps)
+part_of : (children : Children) (taken : Pairs) (first : Option Place) (earlier : ActNames) (ps : List (List ℕ × List ℕ)) (c p : ℕ) → Free (parts_entries children taken first earlier ps)
     → list_any (λ part. nat_eq part.0 c && nat_eq part.1 p) (map (part_numbers children) ps) ≡ true → Part children first c p
 part_of children taken first earlier [] c p h k = absurd (true≢false (sym k))
 part_of children taken first earlier (z ∷ ps) c p h k =

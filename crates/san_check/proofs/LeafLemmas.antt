@@ -1,4 +1,5 @@
 -- Without a fault each leaf has its atomic, with the cells and the initial values that its node shows.
+use Rattle.san_base.proofs.NumberTests.{some_same}
 use Rattle.std.proofs.Common.{◌≡◌, ℕ, zero, suc, ◌+◌, ◌<◌, ◌≤◌, Bool, true, false, List, [], ◌∷◌, length, Option, Some, is_some, refl, sym, ap, subst, ◌∙◌, true≢false, arith}
 use Rattle.std.proofs.lemmas.Option.{slice_get-map, slice_get_within, get_or_from_slice_get}
 use Rattle.std.specs.Prelude.{unwrap_or, slice_get}
@@ -22,7 +23,6 @@ use Rattle.san_check.specs.build.Composition.{capped, node_of, atomics_after, no
 use Rattle.san_check.specs.build.Cells.{all_values, all_elements, elements_in, elements_from}
 use Rattle.san_check.specs.build.Atomic.{atomic_of, atomic_in, atomics_from}
 use Rattle.san_check.proofs.FreeLemmas.{Free, free_left, free_right}
-use Rattle.san_check.proofs.FreshLemmas.{some_same}
 use Rattle.san_check.proofs.ListedLemmas.{places_listed, places_few}
 use Rattle.san_check.proofs.KeepsLemmas.{model_at, one_model_more}
 use Rattle.san_check.proofs.PlacedLemmas.{places_placed}

@@ -1,4 +1,5 @@
 -- Without a fault a table has its names in the order of declaration, each once.
+use Rattle.san_base.proofs.Lists.{nothing_behind}
 use Rattle.std.proofs.Common.{◌≡◌, ℕ, zero, suc, ◌+◌, ◌<◌, ◌≤◌, Bool, true, false, cond, not, ◌&&◌, ◌||◌, nat_eq, nat_lt, nat_le, List, [], ◌∷◌, ◌++◌, length, map, Option, Some, None, is_some, is_none, refl, sym, ap, subst, ◌∙◌, true≢false, arith, append_assoc}
 use Rattle.std.proofs.lemmas.Bool.{ltb-false}
 use Rattle.std.proofs.lemmas.Slice.Eq.{bytes_eq-Decides}
@@ -24,10 +25,6 @@ use Rattle.san_check.proofs.TableLemmas.{declared_last}
 use Rattle.san_check.proofs.FreeLemmas.{Free, free_left, free_right, code_free, else_first, else_second}
 use Rattle.san_check.proofs.TreeLemmas.{grows, shares_free, shown_free}
 use Rattle.san_check.proofs.NumberLemmas.{number_is}
-
-pub nothing_behind : {A : Type 0} (xs : List A) → xs ++ [] ≡ xs
-nothing_behind [] = refl
-nothing_behind (x ∷ xs) = ap (λ ys. x ∷ ys) (nothing_behind xs)
 
 -- one declaration more, of a name that isn't known
 one_more : {V : Type 0} (t rest all : Table V) (name : List ℕ) (v : V) → is_known t name ≡ false → all ≡ declared t name v ++ rest → all ≡ t ++ (name, v) ∷ rest

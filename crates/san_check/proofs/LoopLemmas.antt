@@ -20,10 +20,6 @@ entries_turn run here next cons ds i d t t1 w w1 total lt is h e so_far =
     ∙ part_goes_on w w1 total (here t i (length (drop (i + 1) ds)) d) (run (next t d) (i + 1) (drop (i + 1) ds)) h
     (ap (seen_all w) (sym (cons t i d (drop (i + 1) ds)) ∙ ap (run t i) (sym (dropped ds i d lt is))) ∙ so_far)
 
--- which item an index gives doesn't hang on what stands behind the end
-pub same_item : {A : Type 0} (xs : List A) (i : ℕ) (a b : A) → i < length xs → get_or xs i a ≡ get_or xs i b
-same_item xs i a b lt = cc (drop-cons xs i a lt, drop-cons xs i b lt)
-
 -- what a list is made into, item by item
 pub map_turn : {D E : Type 0} (f : D → E) (ds : List D) (i : ℕ) (d : D) (v v1 : List E) (y : E) → i < length ds → d ≡ get_or ds i d → v1 ≡ v ++ y ∷ [] → y ≡ f d → v ++ map f (drop i ds) ≡ map f ds → v1 ++ map f (drop (i + 1) ds) ≡ map f ds
 map_turn f ds i d v v1 y lt is made at so_far =

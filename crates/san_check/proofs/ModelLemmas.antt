@@ -10,18 +10,18 @@ use Rattle.san_check.specs.build.Composition.{nodes_of, root_of}
 use Rattle.san_check.specs.build.Atomic.{atomics_of}
 use Rattle.san_check.specs.build.Reward.{rewards_of}
 use Rattle.san_check.specs.build.Cells.{elements_of}
-use Rattle.san_check.specs.Checked.{IsRead}
+use Rattle.san_check.specs.Checked.{IsOfText}
 use Rattle.san_check.specs.inner.Models.{IsModel}
 use Rattle.san_check.specs.Composed.{IsComposed}
 use Rattle.san_check.specs.Formed.{IsFormed}
 use Rattle.san_check.proofs.FormedLemmas.{parsed_formed}
 use Rattle.san_check.proofs.ComposedLemmas.{composed_of}
 
-pub kept : (s : Syntax) (system : List ℕ) (atomics : List Atomic) (nodes : List Node) (root : ℕ) (rewards : List Reward) (cells : List (List (ℕ × ℕ))) → IsRead s → syntax_fault s ≡ None → system ≡ s.system → atomics ≡ atomics_of s → nodes ≡ nodes_of s → root ≡ root_of s → rewards ≡ rewards_of s → cells ≡ elements_of s
+pub kept : (s : Syntax) (system : List ℕ) (atomics : List Atomic) (nodes : List Node) (root : ℕ) (rewards : List Reward) (cells : List (List (ℕ × ℕ))) → IsOfText s → syntax_fault s ≡ None → system ≡ s.system → atomics ≡ atomics_of s → nodes ≡ nodes_of s → root ≡ root_of s → rewards ≡ rewards_of s → cells ≡ elements_of s
     → ∥ IsModel system atomics nodes root rewards cells ∥₁
 kept s system atomics nodes root rewards cells read passes y a n t r c = ∣ record { syntax = s; read = read; passes = passes; of_system = y; of_atomics = a; of_nodes = n; of_root = t; of_rewards = r; of_cells = c } ∣₁
 
-read_formed : (s : Syntax) → IsRead s → IsFormed s
+read_formed : (s : Syntax) → IsOfText s → IsFormed s
 read_formed s read = subst IsFormed read.syntax (parsed_formed read.text read.found read.short read.parses)
 
 of_model : (system : List ℕ) (atomics : List Atomic) (nodes : List Node) (root : ℕ) (rewards : List Reward) (cells : List (List (ℕ × ℕ))) → IsModel system atomics nodes root rewards cells → IsComposed system atomics nodes rewards cells

@@ -15,7 +15,7 @@ use Rattle.san_check.specs.declared.place.Place.{Place}
 use Rattle.san_check.specs.Tables.{Pairs, is_known, declared, all_paired}
 use Rattle.san_check.specs.walk.Entries.{code}
 use Rattle.san_check.specs.walk.Expression.{Places}
-use Rattle.san_check.specs.walk.Activity.{Acts}
+use Rattle.san_check.specs.walk.Activity.{ActNames}
 use Rattle.san_check.specs.walk.Composition.{Models, Children, children_entries, with_child, all_children, shown_by, nothing, part_code, parts_entries, first_place, shares_entries, with_share, model_entries, models_entries, with_model, all_models, model_code}
 use Rattle.san_check.specs.walk.Reward.{rewards_entries}
 use Rattle.san_check.specs.walk.Model.{syntax_entries, syntax_fault}
@@ -26,7 +26,7 @@ use Rattle.san_check.proofs.NumberLemmas.{numbers_apart, found_front, known_itse
 use Rattle.std.specs.Prelude.{unwrap_or}
 
 -- a part's child is the join's, and in no earlier part
-part_free : (children : Children) (earlier : Acts) (child : List ℕ) → part_code children earlier child ≡ None → (is_known children child ≡ true) × (is_known earlier child ≡ false)
+part_free : (children : Children) (earlier : ActNames) (child : List ℕ) → part_code children earlier child ≡ None → (is_known children child ≡ true) × (is_known earlier child ≡ false)
 unfolding part_code
 part_free children earlier child h =
     let one = else_first (code 25 (not (is_known children child))) (code 27 (is_known earlier child)) h in
@@ -38,7 +38,7 @@ neither true x r h k = absurd (h refl)
 neither false x r h k = k
 
 -- a child of an earlier part stands in no later one
-no_more : (children : Children) (taken : Pairs) (first : Option Place) (earlier : Acts) (ps : List (List ℕ × List ℕ)) (n : List ℕ) (c q : ℕ) → length children ≤ 4294967295 → Free (parts_entries children taken first earlier ps)
+no_more : (children : Children) (taken : Pairs) (first : Option Place) (earlier : ActNames) (ps : List (List ℕ × List ℕ)) (n : List ℕ) (c q : ℕ) → length children ≤ 4294967295 → Free (parts_entries children taken first earlier ps)
     → is_known earlier n ≡ true → is_known children n ≡ true → c ≡ number children n → list_any (λ part. nat_eq part.0 c && nat_eq part.1 q) (map (part_numbers children) ps) ≡ false
 no_more children taken first earlier [] n c q few h ke kc is = refl
 no_more children taken first earlier (y ∷ ps) n c q few h ke kc is =
@@ -53,7 +53,7 @@ pick true true false rp rq hp hq both np nq tail = absurd (true≢false (sym hq 
 pick true false bq rp rq hp hq both np nq tail = absurd (true≢false (sym hp ∙ np refl))
 pick false bp bq rp rq hp hq both np nq tail = tail hp hq
 
-once : (children : Children) (taken : Pairs) (first : Option Place) (earlier : Acts) (ps : List (List ℕ × List ℕ)) (c p q : ℕ) → length children ≤ 4294967295 → Free (parts_entries children taken first earlier ps)
+once : (children : Children) (taken : Pairs) (first : Option Place) (earlier : ActNames) (ps : List (List ℕ × List ℕ)) (c p q : ℕ) → length children ≤ 4294967295 → Free (parts_entries children taken first earlier ps)
     → list_any (λ part. nat_eq part.0 c && nat_eq part.1 p) (map (part_numbers children) ps) ≡ true → list_any (λ part. nat_eq part.0 c && nat_eq part.1 q) (map (part_numbers children) ps) ≡ true → p ≡ q
 once children taken first earlier [] c p q few h hp hq = absurd (true≢false (sym hp))
 once children taken first earlier (y ∷ ps) c p q few h hp hq =

@@ -14,7 +14,7 @@ use Rattle.san_text.specs.declared.syntax.ModelDecl.{ModelDecl}
 use Rattle.san_text.specs.declared.syntax.ModelDecl.TheVariants as model
 use Rattle.san_text.specs.declared.syntax.Syntax.{Syntax}
 use Rattle.san_text.specs.Words.{tail}
-use Rattle.san_text.specs.Steps.{Fault, Reads, ◌>>=◌, name_at, number_at, mark_at, keyword_at, next_keyword, next_mark, many, all_of, gathered}
+use Rattle.san_text.specs.Steps.{GrammarFault, Reading, ◌>>=◌, name_at, number_at, mark_at, keyword_at, next_keyword, next_mark, many, all_of, gathered}
 use Rattle.san_text.specs.Expressions.{expr}
 use Rattle.san_text.specs.Activities.{place_at, starts_input, input_at, starts_act, act_at, timed_at, instant_at, timing_at, pair_at, priority_at, dist_at, det_at, uniform_at, geom_at, table_at, entries_at, entry_at, more_entry, cases_at, weighted_at, plain_at, case_at, starts_output, output_at}
 use Rattle.san_text.specs.Models.{syntax_at, head_at, starts_model, model_at, atomic_at, join_at, child_at, share_at, rep_at, copied_at, times_at, shown_at, system_at, reward_at, ended}
@@ -28,13 +28,13 @@ use Rattle.san_check.specs.Formed.{IsFormedDist, IsFormedTiming}
 -- ---- lists
 
 -- an item was read at the front of so many words at most
-pub record Got {A : Type 0} (item : Reads A) (room : ℕ) (x : A) : Type 0 where
+pub record Got {A : Type 0} (item : Reading A) (room : ℕ) (x : A) : Type 0 where
   pub at : List Word
   pub rest : List Word
   pub fits : length at ≤ room
   pub read : item at ≡ Ok (x, rest)
 
-many_by : {A : Type 0} (starts : List Word → Bool) (item : Reads A) (n room : ℕ) (ws : List Word)
+many_by : {A : Type 0} (starts : List Word → Bool) (item : Reading A) (n room : ℕ) (ws : List Word)
     → ((vs : List Word) (q : List A × List Word) → length vs ≤ room → many starts item n vs ≡ Ok q → All (Got item room) q.0) → Local item → length ws ≤ room
     → (b : Bool) (p : List A × List Word) → cond b (item ws >>= λ x. many starts item n x.1 >>= λ y. Ok (x.0 ∷ y.0, y.1)) (Ok ([], ws)) ≡ Ok p → All (Got item room) p.0
 many_by starts item n room ws more l le false p e = subst (λ (z : List _ × List Word). All (Got item room) z.0) (ok_is ([], ws) p e) (All-nil (Got item room))
@@ -45,7 +45,7 @@ many_by starts item n room ws more l le true p e =
     let first : Got item room x.0.0 = record { at = ws; rest = x.0.1; fits = le; read = x.1 } in
     subst (λ (z : List _ × List Word). All (Got item room) z.0) (ok_is (x.0.0 ∷ y.0.0, y.0.1) p y.2) (All-cons (Got item room) x.0.0 y.0.0 first (more x.0.1 y.0 (omega (arith, le, less)) y.1))
 
-pub many_got : {A : Type 0} (starts : List Word → Bool) (item : Reads A) → Local item → (n room : ℕ) (ws : List Word) (p : List A × List Word) → length ws ≤ room → many starts item n ws ≡ Ok p → All (Got item room) p.0
+pub many_got : {A : Type 0} (starts : List Word → Bool) (item : Reading A) → Local item → (n room : ℕ) (ws : List Word) (p : List A × List Word) → length ws ≤ room → many starts item n ws ≡ Ok p → All (Got item room) p.0
 unfolding many
 many_got starts item l zero room ws p le e = subst (λ (z : List _ × List Word). All (Got item room) z.0) (ok_is ([], ws) p e) (All-nil (Got item room))
 many_got starts item l (suc n) room ws p le e = many_by starts item n room ws (λ vs q. many_got starts item l n room vs q) l le (starts ws) p e
@@ -55,7 +55,7 @@ all_as {P = P} {Q = Q} f [] h = All-nil Q
 all_as {P = P} {Q = Q} f (x ∷ xs) h = All-cons Q x xs (f x (All-head P x xs h)) (all_as f xs (All-tail P x xs h))
 
 -- no more items than turns, and one where one starts
-few_by : {A : Type 0} (starts : List Word → Bool) (item : Reads A) (n : ℕ) (ws : List Word)
+few_by : {A : Type 0} (starts : List Word → Bool) (item : Reading A) (n : ℕ) (ws : List Word)
     → ((vs : List Word) (q : List A × List Word) → many starts item n vs ≡ Ok q → length q.0 ≤ n)
     → (b : Bool) (p : List A × List Word) → cond b (item ws >>= λ x. many starts item n x.1 >>= λ y. Ok (x.0 ∷ y.0, y.1)) (Ok ([], ws)) ≡ Ok p → length p.0 ≤ suc n
 few_by starts item n ws more false p e = subst (λ (z : List _ × List Word). length z.0 ≤ suc n) (ok_is ([], ws) p e) (omega arith)
@@ -65,12 +65,12 @@ few_by starts item n ws more true p e =
     let few : length y.0.0 ≤ n = more x.0.1 y.0 y.1 in
     subst (λ (z : List _ × List Word). length z.0 ≤ suc n) (ok_is (x.0.0 ∷ y.0.0, y.0.1) p y.2) (omega (arith, few))
 
-many_few : {A : Type 0} (starts : List Word → Bool) (item : Reads A) (n : ℕ) (ws : List Word) (p : List A × List Word) → many starts item n ws ≡ Ok p → length p.0 ≤ n
+many_few : {A : Type 0} (starts : List Word → Bool) (item : Reading A) (n : ℕ) (ws : List Word) (p : List A × List Word) → many starts item n ws ≡ Ok p → length p.0 ≤ n
 unfolding many
 many_few starts item zero ws p e = subst (λ (z : List _ × List Word). length z.0 ≤ 0) (ok_is ([], ws) p e) (omega arith)
 many_few starts item (suc n) ws p e = few_by starts item n ws (λ vs q. many_few starts item n vs q) (starts ws) p e
 
-some_by : {A : Type 0} (starts : List Word → Bool) (item : Reads A) (n : ℕ) (ws : List Word) (b : Bool) (p : List A × List Word) → b ≡ true
+some_by : {A : Type 0} (starts : List Word → Bool) (item : Reading A) (n : ℕ) (ws : List Word) (b : Bool) (p : List A × List Word) → b ≡ true
     → cond b (item ws >>= λ x. many starts item n x.1 >>= λ y. Ok (x.0 ∷ y.0, y.1)) (Ok ([], ws)) ≡ Ok p → 1 ≤ length p.0
 some_by starts item n ws false p is e = absurd cc
 some_by starts item n ws true p is e =
@@ -78,14 +78,14 @@ some_by starts item n ws true p is e =
     let y = bind_ok (many starts item n x.0.1) (λ y. Ok (x.0.0 ∷ y.0, y.1)) p x.2 in
     subst (λ (z : List _ × List Word). 1 ≤ length z.0) (ok_is (x.0.0 ∷ y.0.0, y.0.1) p y.2) (omega arith)
 
-many_some : {A : Type 0} (starts : List Word → Bool) (item : Reads A) (n : ℕ) (ws : List Word) (p : List A × List Word) → 0 < n → starts ws ≡ true → many starts item n ws ≡ Ok p → 1 ≤ length p.0
+many_some : {A : Type 0} (starts : List Word → Bool) (item : Reading A) (n : ℕ) (ws : List Word) (p : List A × List Word) → 0 < n → starts ws ≡ true → many starts item n ws ≡ Ok p → 1 ≤ length p.0
 unfolding many
 many_some starts item zero ws p lt is e = absurd (omega (arith, lt))
 many_some starts item (suc n) ws p lt is e = some_by starts item n ws (starts ws) p is e
 
 -- ---- delays and cases
 
-gathered_some : {A : Type 0} (x : A) (r : Result (List A × List Word) Fault) (p : List A × List Word) → gathered (x ∷ []) r ≡ Ok p → 1 ≤ length p.0
+gathered_some : {A : Type 0} (x : A) (r : Result (List A × List Word) GrammarFault) (p : List A × List Word) → gathered (x ∷ []) r ≡ Ok p → 1 ≤ length p.0
 gathered_some x (Ok y) p e = subst (λ (z : List _ × List Word). 1 ≤ length z.0) (ok_is (x ∷ y.0, y.1) p e) (omega arith)
 gathered_some x (Err f) p e = absurd cc
 

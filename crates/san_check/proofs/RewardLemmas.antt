@@ -15,7 +15,7 @@ use Rattle.san_check.specs.declared.known.Known.{Known}
 use Rattle.san_check.specs.Tables.{is_known, declared}
 use Rattle.san_check.specs.walk.Entries.{code}
 use Rattle.san_check.specs.walk.Expression.{Places}
-use Rattle.san_check.specs.walk.Activity.{Acts}
+use Rattle.san_check.specs.walk.Activity.{ActNames}
 use Rattle.san_check.specs.walk.Composition.{Models, known_as}
 use Rattle.san_check.specs.walk.Reward.{reward_code, span_entries, is_at, terms_entries, reward_entries, rewards_entries}
 use Rattle.san_check.specs.build.Cells.{CellTable}
@@ -70,7 +70,7 @@ no_one true h = absurd (true≢false h)
 no_one false h = refl
 
 -- the terms of one reward are counted for it
-few_times : (cells : CellTable) (acts : Acts) (r n : ℕ) (ts : List TermDecl) → times r (rates_in cells n ts) (impulses_in cells acts n ts) ≤ length ts
+few_times : (cells : CellTable) (acts : ActNames) (r n : ℕ) (ts : List TermDecl) → times r (rates_in cells n ts) (impulses_in cells acts n ts) ≤ length ts
 unfolding rate_in impulse_in
 few_times cells acts r n [] = omega arith
 few_times cells acts r n (term.Rate e ∷ ts) =
@@ -87,7 +87,7 @@ few_times cells acts r n (term.Impulse act e ∷ ts) =
     omega (arith, step, same, one, more)
 
 -- and for no other
-no_times : (cells : CellTable) (acts : Acts) (r n : ℕ) (ts : List TermDecl) → nat_eq r n ≡ false → times r (rates_in cells n ts) (impulses_in cells acts n ts) ≡ 0
+no_times : (cells : CellTable) (acts : ActNames) (r n : ℕ) (ts : List TermDecl) → nat_eq r n ≡ false → times r (rates_in cells n ts) (impulses_in cells acts n ts) ≡ 0
 unfolding rate_in impulse_in
 no_times cells acts r n [] h = omega arith
 no_times cells acts r n (term.Rate e ∷ ts) h =
@@ -109,7 +109,7 @@ record GoodHead (k acts n : ℕ) (us : List RateTerm) (vs : List ImpulseTerm) : 
   pub few : (r : ℕ) → times r us vs ≤ 16
   pub other : (r : ℕ) → nat_eq r n ≡ false → times r us vs ≡ 0
 
-head_good : (b : Bool) (models : Models) (name : List ℕ) (places : Places) (acts : Acts) (cells : CellTable) (k n : ℕ) (d : RewardDecl) → bytes_eq d.atomic name ≡ b → Placed places cells k → known_as models name ≡ record { atomic = true; places = places; acts = acts }
+head_good : (b : Bool) (models : Models) (name : List ℕ) (places : Places) (acts : ActNames) (cells : CellTable) (k n : ℕ) (d : RewardDecl) → bytes_eq d.atomic name ≡ b → Placed places cells k → known_as models name ≡ record { atomic = true; places = places; acts = acts }
     → Free (terms_entries (known_as models d.atomic).places (known_as models d.atomic).acts (is_at d.span) 0 d.terms) → GoodHead k (length acts) n (cond b (rates_in cells n d.terms) []) (cond b (impulses_in cells acts n d.terms) [])
 head_good true models name places acts cells k n d is fit known f =
     let here : known_as models d.atomic ≡ record { atomic = true; places = places; acts = acts } = ap (known_as models) ((bytes_eq-Decides d.atomic name).0 is) ∙ known in
@@ -135,8 +135,8 @@ below_differs false r n is lt = refl
 joined_times : (r : ℕ) (xs ys : List RateTerm) (us vs : List ImpulseTerm) → times r (xs ++ ys) (us ++ vs) ≡ times r xs us + times r ys vs
 joined_times r xs ys us vs = let a = rate_append r xs ys in let b = impulse_append r us vs in omega (arith, a, b)
 
-pub rewards_good : (models : Models) (name : List ℕ) (places : Places) (acts : Acts) (cells : CellTable) (k : ℕ) → Placed places cells k → known_as models name ≡ record { atomic = true; places = places; acts = acts }
-    → (rewards : Acts) (n : ℕ) (rs : List RewardDecl) → n ≤ 64 → Free (rewards_entries models rewards n rs) → GoodRewards k (length acts) n (all_rates cells name n rs) (all_impulses cells acts name n rs)
+pub rewards_good : (models : Models) (name : List ℕ) (places : Places) (acts : ActNames) (cells : CellTable) (k : ℕ) → Placed places cells k → known_as models name ≡ record { atomic = true; places = places; acts = acts }
+    → (rewards : ActNames) (n : ℕ) (rs : List RewardDecl) → n ≤ 64 → Free (rewards_entries models rewards n rs) → GoodRewards k (length acts) n (all_rates cells name n rs) (all_impulses cells acts name n rs)
 unfolding reward_code reward_entries
 rewards_good models name places acts cells k fit known rewards n [] lt f = record { rates = All-nil (GoodRate k); impulses = All-nil (GoodImpulse k (length acts)); few = λ r. omega arith; later = λ r h. omega arith }
 rewards_good models name places acts cells k fit known rewards n (d ∷ ds) lt f =

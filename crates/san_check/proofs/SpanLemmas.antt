@@ -22,7 +22,7 @@ use Rattle.san_net.specs.declared.part.Reward.{Reward}
 use Rattle.san_check.specs.Tables.{is_known, declared}
 use Rattle.san_check.specs.walk.Entries.{code, ◌else◌}
 use Rattle.san_check.specs.walk.Expression.{Places, first_entries, expr_entries}
-use Rattle.san_check.specs.walk.Activity.{Acts}
+use Rattle.san_check.specs.walk.Activity.{ActNames}
 use Rattle.san_check.specs.walk.Atomic.{all_acts}
 use Rattle.san_check.specs.walk.Composition.{Models, known_as}
 use Rattle.san_check.specs.walk.Reward.{reward_code, end_code, span_entries, is_at, impulse_code, term_entries, terms_entries, reward_entries, rewards_entries}
@@ -35,7 +35,7 @@ use Rattle.san_check.specs.build.Atomic.{atomic_of, atomic_in, atomics_from}
 use Rattle.san_check.proofs.FreeLemmas.{Free, free_left, free_right, code_free, else_first, else_second, room}
 use Rattle.san_check.proofs.ListedLemmas.{or_left, or_right}
 
-pub rewards_few : (models : Models) (rewards : Acts) (n : ℕ) (rs : List RewardDecl) → n ≤ 64 → Free (rewards_entries models rewards n rs) → n + length rs ≤ 64
+pub rewards_few : (models : Models) (rewards : ActNames) (n : ℕ) (rs : List RewardDecl) → n ≤ 64 → Free (rewards_entries models rewards n rs) → n + length rs ≤ 64
 unfolding reward_code
 rewards_few models rewards n [] lt f = omega (arith, lt)
 rewards_few models rewards n (r ∷ rs) lt f =
@@ -60,7 +60,7 @@ span_good (decl.At tick) f = ltb-false 1000000000000 tick (code_free 38 (nat_lt 
 abbrev HasSpan : Reward → Type 0
 HasSpan r = IsSpan r.span
 
-pub spans_good : (models : Models) (rewards atomics : Acts) (n : ℕ) (rs : List RewardDecl) → Free (rewards_entries models rewards n rs) → All HasSpan (map (reward_of atomics) rs)
+pub spans_good : (models : Models) (rewards atomics : ActNames) (n : ℕ) (rs : List RewardDecl) → Free (rewards_entries models rewards n rs) → All HasSpan (map (reward_of atomics) rs)
 unfolding reward_entries
 spans_good models rewards atomics n [] f = All-nil HasSpan
 spans_good models rewards atomics n (r ∷ rs) f =
@@ -82,12 +82,12 @@ IsOf at reward t = (t.reward ≡ reward) × (at ≡ false)
 abbrev IsRateOf : ℕ → RateTerm → Type 0
 IsRateOf reward t = t.reward ≡ reward
 
-not_at : (known : Acts) (at : Bool) (n : ℕ) (name : List ℕ) → impulse_code known at n name ≡ None → at ≡ false
+not_at : (known : ActNames) (at : Bool) (n : ℕ) (name : List ℕ) → impulse_code known at n name ≡ None → at ≡ false
 unfolding impulse_code
 not_at known at n name h =
     code_free 39 at (else_first (code 39 at) (code 47 (nat_le 16 n)) (else_second (code 24 (not (is_known known name))) (code 39 at else code 47 (nat_le 16 n)) h))
 
-impulses_of_one : (places : Places) (known acts : Acts) (cells : CellTable) (at : Bool) (reward n : ℕ) (ts : List TermDecl) → Free (terms_entries places known at n ts) → All (IsOf at reward) (impulses_in cells acts reward ts)
+impulses_of_one : (places : Places) (known acts : ActNames) (cells : CellTable) (at : Bool) (reward n : ℕ) (ts : List TermDecl) → Free (terms_entries places known at n ts) → All (IsOf at reward) (impulses_in cells acts reward ts)
 unfolding term_entries impulse_in
 impulses_of_one places known acts cells at reward n [] f = All-nil (IsOf at reward)
 impulses_of_one places known acts cells at reward n (term.Rate e ∷ ts) f = impulses_of_one places known acts cells at reward (n + 1) ts (free_right (first_entries places e (nat_le 16 n)) (terms_entries places known at (n + 1) ts) f)
@@ -131,7 +131,7 @@ both_fit whole us us' vs vs' h t = record {
   intervals = All-append (TakesTerm whole) vs vs' h.intervals t.intervals;
 }
 
-one_fits : (models : Models) (atomics acts : Acts) (cells : CellTable) (name : List ℕ) (whole : List Reward) (n : ℕ) (d : RewardDecl) → slice_get whole n ≡ Some (reward_of atomics d) → Free (reward_entries models d) → TermsFit whole (rates_on cells name n d) (impulses_on cells acts name n d)
+one_fits : (models : Models) (atomics acts : ActNames) (cells : CellTable) (name : List ℕ) (whole : List Reward) (n : ℕ) (d : RewardDecl) → slice_get whole n ≡ Some (reward_of atomics d) → Free (reward_entries models d) → TermsFit whole (rates_on cells name n d) (impulses_on cells acts name n d)
 unfolding reward_entries
 one_fits models atomics acts cells name whole n d at f =
     let places = (known_as models d.atomic).places in
@@ -146,7 +146,7 @@ one_fits models atomics acts cells name whole n d at f =
     }
 
 -- rewards behind n others, which stand there in the whole
-rewards_fit : (models : Models) (atomics acts : Acts) (cells : CellTable) (name : List ℕ) (whole : List Reward) (known : Acts) (n : ℕ) (rs : List RewardDecl) → n ≤ 64 → ((i : ℕ) → slice_get whole (n + i) ≡ slice_get (map (reward_of atomics) rs) i)
+rewards_fit : (models : Models) (atomics acts : ActNames) (cells : CellTable) (name : List ℕ) (whole : List Reward) (known : ActNames) (n : ℕ) (rs : List RewardDecl) → n ≤ 64 → ((i : ℕ) → slice_get whole (n + i) ≡ slice_get (map (reward_of atomics) rs) i)
     → Free (rewards_entries models known n rs) → TermsFit whole (all_rates cells name n rs) (all_impulses cells acts name n rs)
 unfolding reward_code
 rewards_fit models atomics acts cells name whole known n [] lt at f = record { rates = All-nil (IsRateBelow whole); impulses = All-nil (IsImpulseBelow whole); intervals = All-nil (TakesTerm whole) }
@@ -164,7 +164,7 @@ rewards_fit models atomics acts cells name whole known n (d ∷ ds) lt at f =
 abbrev pub AllFit : List Reward → Atomic → Type 0
 AllFit whole x = TermsFit whole x.rates x.impulses
 
-pub atomics_fit : (models : Models) (atomics : Acts) (rewards : List RewardDecl) (ms : List ModelDecl) → Free (rewards_entries models [] 0 rewards) → All (AllFit (map (reward_of atomics) rewards)) (atomics_from rewards ms)
+pub atomics_fit : (models : Models) (atomics : ActNames) (rewards : List RewardDecl) (ms : List ModelDecl) → Free (rewards_entries models [] 0 rewards) → All (AllFit (map (reward_of atomics) rewards)) (atomics_from rewards ms)
 unfolding atomic_in
 atomics_fit models atomics rewards [] f = All-nil (AllFit (map (reward_of atomics) rewards))
 atomics_fit models atomics rewards (model.Atomic name places acts ∷ ms) f =

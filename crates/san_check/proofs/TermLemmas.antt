@@ -1,5 +1,6 @@
 -- Without a fault an atomic's terms are as they are accepted.
 use Rattle.san_base.proofs.Bools.{not_false}
+use Rattle.san_base.proofs.Lists.{nothing_behind}
 use Rattle.std.proofs.Common.{◌≡◌, ℕ, ◌+◌, ◌<◌, ◌≤◌, Bool, true, false, not, nat_le, List, [], ◌∷◌, length, Option, None, is_some, All, refl, sym, ap, subst, true≢false, arith}
 use Rattle.std.proofs.lemmas.Bool.{leb-false}
 use Rattle.std.proofs.lemmas.List.Elements.{All-cons, All-nil}
@@ -15,14 +16,13 @@ use Rattle.san_net.specs.Accepted.{IsAcceptedTerm}
 use Rattle.san_check.specs.Tables.{is_known}
 use Rattle.san_check.specs.walk.Entries.{Entries, code, ◌else◌}
 use Rattle.san_check.specs.walk.Expression.{Places, whole, element, entry, expr_step, first_entries, expr_entries}
-use Rattle.san_check.specs.walk.Activity.{Acts}
+use Rattle.san_check.specs.walk.Activity.{ActNames}
 use Rattle.san_check.specs.walk.Reward.{impulse_code, term_entries, terms_entries}
 use Rattle.san_check.specs.build.Cells.{CellTable}
 use Rattle.san_check.specs.build.Composition.{number}
 use Rattle.san_check.specs.build.Expression.{expr_of}
 use Rattle.san_check.specs.build.Term.{rate_in, impulse_in, rates_in, impulses_in}
 use Rattle.san_check.proofs.FreeLemmas.{Free, free_left, free_right, code_free, else_first, else_second}
-use Rattle.san_check.proofs.ListedLemmas.{nothing_behind}
 use Rattle.san_check.proofs.TreeLemmas.{number_below}
 use Rattle.san_check.proofs.FitLemmas.{Placed, first_good, expr_good}
 
@@ -60,7 +60,7 @@ early : (late : Bool) (n : ℕ) (places : Places) (e : Ast) → nat_le 16 n ≡ 
 early true n places e is f = absurd (refused places e f)
 early false n places e is f = let h = leb-false 16 n is in omega (arith, h)
 
-known_act : (acts : Acts) (at : Bool) (n : ℕ) (name : List ℕ) → impulse_code acts at n name ≡ None → (is_known acts name ≡ true) × (n < 16)
+known_act : (acts : ActNames) (at : Bool) (n : ℕ) (name : List ℕ) → impulse_code acts at n name ≡ None → (is_known acts name ≡ true) × (n < 16)
 unfolding impulse_code
 known_act acts at n name h =
     let more = else_second (code 24 (not (is_known acts name))) (code 39 at else code 47 (nat_le 16 n)) h in
@@ -73,10 +73,10 @@ pub record GoodTerms (k acts n : ℕ) (ts : List TermDecl) (us : List RateTerm) 
   pub rates : All (GoodRate k) us
   pub impulses : All (GoodImpulse k acts) vs
 
-act_below : (acts : Acts) (name : List ℕ) → is_known acts name ≡ true → number acts name < length acts
+act_below : (acts : ActNames) (name : List ℕ) → is_known acts name ≡ true → number acts name < length acts
 act_below acts name h = number_below acts [] acts name (sym (nothing_behind acts)) h
 
-pub terms_good : (places : Places) (cells : CellTable) (acts : Acts) (k reward n : ℕ) (at : Bool) → Placed places cells k → (ts : List TermDecl) → n ≤ 16 → Free (terms_entries places acts at n ts)
+pub terms_good : (places : Places) (cells : CellTable) (acts : ActNames) (k reward n : ℕ) (at : Bool) → Placed places cells k → (ts : List TermDecl) → n ≤ 16 → Free (terms_entries places acts at n ts)
     → GoodTerms k (length acts) n ts (rates_in cells reward ts) (impulses_in cells acts reward ts)
 unfolding term_entries rate_in impulse_in
 terms_good places cells acts k reward n at fit [] few f = record { few = omega (arith, few); rates = All-nil (GoodRate k); impulses = All-nil (GoodImpulse k (length acts)) }

@@ -1,5 +1,6 @@
 -- The nodes of a syntax without a fault make a tree.
 use Rattle.san_base.proofs.Bools.{not_false}
+use Rattle.san_base.proofs.Lists.{nothing_behind}
 use Rattle.std.proofs.Common.{◌≡◌, ℕ, zero, suc, ◌+◌, ◌<◌, ◌≤◌, Bool, true, false, cond, not, List, [], ◌∷◌, ◌++◌, length, map, Option, Some, None, is_some, nat_le, nat_lt, refl, sym, ap, subst, ◌∙◌, true≢false, arith, append_assoc, length-append}
 use Rattle.std.proofs.lemmas.List.{length-map}
 use Rattle.std.proofs.lemmas.List.Elements.{All-cons, All-map}
@@ -30,10 +31,6 @@ use Rattle.san_check.proofs.FreeLemmas.{Free, free_of, free_left, free_right, co
 -- tables grow behind what they have
 grown_by : {V : Type 0} (b : Bool) (t : Table V) (name : List ℕ) (v : V) → is_known t name ≡ b → (rest : Table V) × (declared t name v ≡ t ++ rest) × (length (declared t name v) ≤ suc (length t))
 grown_by true t name v h = ([], declared_known t name v h ∙ sym (nothing_behind t), subst (λ u. length u ≤ suc (length t)) (sym (declared_known t name v h)) (omega arith))
-  where
-    nothing_behind : {A : Type 0} (xs : List A) → xs ++ [] ≡ xs
-    nothing_behind [] = refl
-    nothing_behind (x ∷ xs) = ap (λ ys. x ∷ ys) (nothing_behind xs)
 grown_by false t name v h = ((name, v) ∷ [], declared_last t name v h, subst (λ u. length u ≤ suc (length t)) (sym (declared_last t name v h)) (omega (arith, length-append t ((name, v) ∷ []))))
 
 pub grows : {V : Type 0} (t : Table V) (name : List ℕ) (v : V) → (rest : Table V) × (declared t name v ≡ t ++ rest) × (length (declared t name v) ≤ suc (length t))
@@ -41,10 +38,6 @@ grows t name v = grown_by (is_known t name) t name v refl
 
 pub models_grow : (t : Models) (ms : List ModelDecl) → (rest : Models) × (all_models t ms ≡ t ++ rest)
 models_grow t [] = ([], sym (nothing_behind t))
-  where
-    nothing_behind : {A : Type 0} (xs : List A) → xs ++ [] ≡ xs
-    nothing_behind [] = refl
-    nothing_behind (x ∷ xs) = ap (λ ys. x ∷ ys) (nothing_behind xs)
 models_grow t (m ∷ ms) =
     let one = grows t (name_of m) (known_of t m) in
     let more = models_grow (with_model t m) ms in
@@ -162,10 +155,6 @@ is_tree s h =
       there = omega (arith, root, short, many);
       each = λ n. subst (λ i. IsNode i (node_at (nodes_from all 0 s.models) n)) (omega arith) (nodes_are all [] 0 0 s.models refl (omega arith) models n);
     }
-  where
-    nothing_behind : {A : Type 0} (xs : List A) → xs ++ [] ≡ xs
-    nothing_behind [] = refl
-    nothing_behind (x ∷ xs) = ap (λ ys. x ∷ ys) (nothing_behind xs)
 
 none_reported : (o : Option Fault) → option_map reported o ≡ None → o ≡ None
 none_reported None h = refl

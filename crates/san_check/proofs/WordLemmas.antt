@@ -1,4 +1,5 @@
 -- There is one entry for each word that counts.
+use Rattle.san_base.proofs.Lists.{nothing_behind}
 use Rattle.std.proofs.Common.{◌≡◌, ℕ, suc, ◌+◌, ◌<◌, Bool, false, is_some, true≢false, List, [], ◌∷◌, ◌++◌, length, map, Option, Some, None, nat_le, refl, sym, ap, subst, ◌∙◌, arith, append_assoc, length-append}
 use Rattle.san_base.specs.declared.op.Op.TheVariants as op
 use Rattle.san_lex.specs.declared.keyword.Keyword.TheVariants as keyword
@@ -46,7 +47,7 @@ use Rattle.san_check.specs.declared.walk.Fault.{Fault}
 use Rattle.san_check.specs.Tables.{Pairs, declared, all_paired}
 use Rattle.san_check.specs.walk.Entries.{Entries, joined, first_fault}
 use Rattle.san_check.specs.walk.Expression.{Places, expr_step, first_entries, expr_entries, stmt_step, stmt_entries, stmts_entries}
-use Rattle.san_check.specs.walk.Activity.{Acts, weight_entries, arc_entries, input_entries, output_entries, outputs_entries, case_entries, cases_entries, summed, table_entries, dist_entries, pair_entries, timing_entries, priority_entries, front_entries, act_entries}
+use Rattle.san_check.specs.walk.Activity.{ActNames, weight_entries, arc_entries, input_entries, output_entries, outputs_entries, case_entries, cases_entries, summed, table_entries, dist_entries, pair_entries, timing_entries, priority_entries, front_entries, act_entries}
 use Rattle.san_check.specs.walk.Atomic.{length_entries, initial_entries, places_entries, with_place, counted, cells_of, all_places, acts_entries}
 use Rattle.san_check.specs.walk.Composition.{Models, Children, model_code, children_entries, with_child, all_children, parts_entries, first_place, shares_entries, with_share, shown_entries, with_shown, shown_by, model_entries, models_entries, with_model, all_models, known_as}
 use Rattle.san_check.specs.walk.Reward.{span_entries, is_at, term_entries, terms_entries, reward_entries, rewards_entries}
@@ -240,7 +241,7 @@ act_counts : (places : Places) (d : ActDecl) → Counts (suc (length (act_entrie
 unfolding act_entries
 act_counts places d = act_of places d d.timing
 
-acts_counts : (places : Places) (acts : Acts) (n : ℕ) (ds : List ActDecl) → Counts (length (acts_entries places acts n ds)) (acts_words ds)
+acts_counts : (places : Places) (acts : ActNames) (n : ℕ) (ds : List ActDecl) → Counts (length (acts_entries places acts n ds)) (acts_words ds)
 acts_counts places acts n [] = none
 acts_counts places acts n (d ∷ ds) =
     let more = acts_entries places (declared acts d.name tt) (n + 1) ds in
@@ -271,7 +272,7 @@ children_counts models children n (c ∷ cs) =
 part_counts : (p : List ℕ × List ℕ) → Counts 2 (part_words p)
 part_counts p = recount (both (name p.0) (both (fixed (sign.Mark mark.Dot) refl) (name p.1))) (omega arith)
 
-more_parts : (children : Children) (taken : Pairs) (first : Option Place) (earlier : Acts) (ps : List (List ℕ × List ℕ)) → Counts (length (parts_entries children taken first earlier ps)) (all_words (map (λ y. Fixed (sign.Mark mark.Comma) ∷ part_words y) ps))
+more_parts : (children : Children) (taken : Pairs) (first : Option Place) (earlier : ActNames) (ps : List (List ℕ × List ℕ)) → Counts (length (parts_entries children taken first earlier ps)) (all_words (map (λ y. Fixed (sign.Mark mark.Comma) ∷ part_words y) ps))
 more_parts children taken first earlier [] = none
 more_parts children taken first earlier (p ∷ ps) = recount (both (both (fixed (sign.Mark mark.Comma) refl) (part_counts p)) (more_parts children taken first (declared earlier p.0 tt) ps)) (omega arith)
 
@@ -313,12 +314,12 @@ span_counts (span.Over a b) = recount (both (fixed (sign.Keyword keyword.Over) r
 span_counts (span.Mean a b) = recount (both (fixed (sign.Keyword keyword.Mean) refl) (both (number a) (number b))) (omega arith)
 span_counts (span.At a) = recount (both (fixed (sign.Keyword keyword.At) refl) (number a)) (omega arith)
 
-term_counts : (places : Places) (acts : Acts) (at : Bool) (n : ℕ) (d : TermDecl) → Counts (length (term_entries places acts at n d)) (term_words d)
+term_counts : (places : Places) (acts : ActNames) (at : Bool) (n : ℕ) (d : TermDecl) → Counts (length (term_entries places acts at n d)) (term_words d)
 unfolding term_entries
 term_counts places acts at n (term.Rate e) = recount (both (fixed (sign.Keyword keyword.Rate) refl) (both (first_counts places e (nat_le 16 n)) semicolon)) (omega arith)
 term_counts places acts at n (term.Impulse s e) = recount (both (fixed (sign.Keyword keyword.Impulse) refl) (both (name s) (both (expr_counts places e) semicolon))) (omega arith)
 
-terms_counts : (places : Places) (acts : Acts) (at : Bool) (n : ℕ) (ds : List TermDecl) → Counts (length (terms_entries places acts at n ds)) (all_words (map term_words ds))
+terms_counts : (places : Places) (acts : ActNames) (at : Bool) (n : ℕ) (ds : List TermDecl) → Counts (length (terms_entries places acts at n ds)) (all_words (map term_words ds))
 terms_counts places acts at n [] = none
 terms_counts places acts at n (d ∷ ds) = recount (both (term_counts places acts at n d) (terms_counts places acts at (n + 1) ds)) (sym (length-append (term_entries places acts at n d) (terms_entries places acts at (n + 1) ds)))
 
@@ -330,7 +331,7 @@ reward_counts models r =
     recount (both (fixed (sign.Keyword keyword.Reward) refl) (both (name r.name) (both (fixed (sign.Keyword keyword.On) refl) (both (name r.atomic) (both (span_counts r.span) (braces (terms_counts known.places known.acts (is_at r.span) 0 r.terms)))))))
     (omega (arith, length-append (span_entries r.span) terms))
 
-rewards_counts : (models : Models) (rewards : Acts) (n : ℕ) (rs : List RewardDecl) → Counts (length (rewards_entries models rewards n rs)) (all_words (map reward_words rs))
+rewards_counts : (models : Models) (rewards : ActNames) (n : ℕ) (rs : List RewardDecl) → Counts (length (rewards_entries models rewards n rs)) (all_words (map reward_words rs))
 rewards_counts models rewards n [] = none
 rewards_counts models rewards n (r ∷ rs) =
     recount (both (reward_counts models r) (rewards_counts models (declared rewards r.name tt) (n + 1) rs)) (omega (arith, length-append (reward_entries models r) (rewards_entries models (declared rewards r.name tt) (n + 1) rs)))
@@ -342,10 +343,6 @@ syntax_counts s =
     let rewards = rewards_entries models [] 0 s.rewards in
     recount (both (both (fixed (sign.Keyword keyword.San) refl) (both (number s.version) semicolon)) (both (models_counts [] 0 s.models) (both (both (fixed (sign.Keyword keyword.System) refl) (both (name s.system) semicolon)) (rewards_counts models [] 0 s.rewards))))
     (omega (arith, length-append (models_entries [] 0 s.models) (model_code models s.system ∷ rewards)))
-
-nothing_behind : {A : Type 0} (xs : List A) → xs ++ [] ≡ xs
-nothing_behind [] = refl
-nothing_behind (x ∷ xs) = ap (λ ys. x ∷ ys) (nothing_behind xs)
 
 pub one_each : (s : Syntax) → length (syntax_entries s) ≡ length (words_of s)
 unfolding words_of words_that_count

@@ -6,7 +6,7 @@ use Rattle.san_text.specs.Texts.{parsed}
 use Rattle.san_base.specs.declared.limits.TheConstants.{MAX_TEXT_BYTES}
 
 -- some text that is not too long parses to the syntax
-pub record IsRead (s : Syntax) : Type 0 where
+pub record IsOfText (s : Syntax) : Type 0 where
   pub text : List ℕ
   pub found : Parsed
   pub short : length text ≤ MAX_TEXT_BYTES

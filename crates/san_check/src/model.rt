@@ -3,7 +3,7 @@
 ghost use Rattle.std.specs.Prelude.{◌≡◌, None, IfOk};
 ghost use Rattle.san_check.specs.walk.Model.{syntax_fault};
 ghost use Rattle.san_check.specs.Answers.{Checks};
-ghost use Rattle.san_check.specs.Checked.{IsRead};
+ghost use Rattle.san_check.specs.Checked.{IsOfText};
 ghost use Rattle.san_check.specs.inner.Models.{IsModel};
 ghost use Rattle.san_check.specs.Composed.{IsComposed};
 ghost use Rattle.san_check.specs.build.Composition.{nodes_of, root_of};
@@ -82,7 +82,7 @@ impl Model {
 
 /// The model of a syntax that passes every check. Own rules.
 pub fn check(alloc: Global, syntax: &Syntax) -> Result<Model, CheckFault>
-    requires { IsRead syntax.now }
+    requires { IsOfText syntax.now }
     ensures checks { Checks result syntax.now }
     ensures system { IfOk result (λ m. m.system ≡ syntax.now.system) }
     ensures atomics { IfOk result (λ m. m.atomics ≡ atomics_of syntax.now) }
@@ -119,7 +119,7 @@ fn parts_of(alloc: Global, syntax: &Syntax) -> Result<Parts, NoMemory>
 /// The model of a syntax without a fault, whose tree this is.
 #[tactic(auto, using(crate::proofs::ModelLemmas::kept))]
 fn with_tree(alloc: Global, syntax: &Syntax, tree: Tree) -> Result<Model, CheckFault>
-    requires read { IsRead syntax.now }
+    requires read { IsOfText syntax.now }
     requires passes { syntax_fault syntax.now ≡ None }
     requires nodes { tree.nodes ≡ nodes_of syntax.now }
     requires root { tree.root ≡ root_of syntax.now }

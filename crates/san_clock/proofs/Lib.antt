@@ -1,5 +1,4 @@
 pub mod AskLemmas
-pub mod ClockLemmas
 pub mod RenewalLemmas
 pub mod RenewLemmas
 pub mod RowLemmas

@@ -1,4 +1,5 @@
 -- The renewal of a leaf's clocks, one after another.
+use Rattle.san_base.proofs.Lists.{nothing_behind, map_last}
 use Rattle.std.proofs.Common.{ℕ, zero, suc, ◌+◌, ◌*◌, ◌<◌, ◌≤◌, ◌≡◌, ◌≢◌, ◌∙◌, ap, sym, refl, subst, arith, List, [], ◌∷◌, ◌++◌, length, map, take, drop, Option, Result, Ok, Err, IfOk, slice_index, slice_index_or, slice_set, ◌⊎◌, inl, inr}
 use Rattle.std.specs.Option.{option_map}
 use Rattle.std.proofs.lemmas.Bool.{cases_eq}
@@ -13,7 +14,7 @@ use Rattle.san_net.specs.declared.activity.ActKind.TheVariants as kind
 use Rattle.san_net.specs.declared.activity.Activity.{Activity}
 use Rattle.san_net.specs.declared.atomic.ImpulseTerm.{ImpulseTerm}
 use Rattle.san_clock.specs.Rows.{timer_in}
-use Rattle.san_clock.specs.inner.Clocks.{Clock, clock_by, clock_in, renewed_in}
+use Rattle.san_clock.specs.inner.Clocks.{ClockValue, clock_by, clock_in, renewed_in}
 use Rattle.san_clock.specs.inner.Renewals.{renewed_named}
 use Rattle.san_clock.specs.declared.row.Timer.{Timer}
 
@@ -53,19 +54,11 @@ set_rest [] k v = refl
 set_rest (x ∷ xs) zero v = refl
 set_rest (x ∷ xs) (suc k) v = set_rest xs k v
 
-mapped : {A B : Type 0} (f : A → B) (xs : List A) (x : A) → map f (xs ++ x ∷ []) ≡ map f xs ++ f x ∷ []
-mapped f [] x = refl
-mapped f (w ∷ xs) x = ap (λ zs. f w ∷ zs) (mapped f xs x)
-
 pub all_taken : {A : Type 0} (xs : List A) (k : ℕ) → length xs ≤ k → (take k xs ≡ xs) × (drop k xs ≡ [])
 all_taken [] zero h = (refl, refl)
 all_taken [] (suc k) h = (refl, refl)
 all_taken (x ∷ xs) zero h = absurd (omega (arith, h))
 all_taken (x ∷ xs) (suc k) h = let rest = all_taken xs k (omega (arith, h)) in (ap (λ zs. x ∷ zs) rest.0, rest.1)
-
-pub ended : {A : Type 0} (xs : List A) → xs ++ [] ≡ xs
-ended [] = refl
-ended (x ∷ xs) = ap (λ zs. x ∷ zs) (ended xs)
 
 module _ (draw : ℕ → ℕ → ℕ) (first time : ℕ) (seen values : List ℕ) (acts : List Named) where
   -- what is renewed, and then the others
@@ -90,14 +83,14 @@ module _ (draw : ℕ → ℕ → ℕ) (first time : ℕ) (seen values : List ℕ
     trapped trap is =
         ap (behind (map (option_map timer_in) (take k timers)) (take k delays)) (next_is ∙ ap (λ r. law.clock_then k r (after (drop (suc k) timers) (drop (suc k) delays))) (sym is))
 
-    pub renewed : (c : Clock) → clock_by (Ok c) ≡ renewed_in (draw (2 * (first + k))) time seen values a.1 (t, n)
+    pub renewed : (c : ClockValue) → clock_by (Ok c) ≡ renewed_in (draw (2 * (first + k))) time seen values a.1 (t, n)
         → so_far timers delays k ≡ so_far (slice_set timers k c.0) (slice_set delays k c.1) (k + 1)
     renewed c is =
         let next : suc k ≡ k + 1 = omega arith in
         let left : law.Clocks = after (drop (suc k) timers) (drop (suc k) delays) in
         ap (behind (map (option_map timer_in) (take k timers)) (take k delays)) (next_is ∙ ap (λ r. law.clock_then k r left) (sym is))
         ∙ behind_one (map (option_map timer_in) (take k timers)) (take k delays) (clock_in c) left
-        ∙ ap (λ zs. behind zs (take k delays ++ c.1 ∷ []) left) (sym (mapped (option_map timer_in) (take k timers) c.0) ∙ ap (map (option_map timer_in)) (sym (set_front timers k c.0 timed)))
+        ∙ ap (λ zs. behind zs (take k delays ++ c.1 ∷ []) left) (sym (map_last (option_map timer_in) (take k timers) c.0) ∙ ap (map (option_map timer_in)) (sym (set_front timers k c.0 timed)))
         ∙ ap (λ zs. behind (map (option_map timer_in) (take (suc k) (slice_set timers k c.0))) zs left) (sym (set_front delays k c.1 counted))
         ∙ ap (behind (map (option_map timer_in) (take (suc k) (slice_set timers k c.0))) (take (suc k) (slice_set delays k c.1)))
         (ap (λ zs. after zs (drop (suc k) delays)) (sym (set_rest timers k c.0)) ∙ ap (after (drop (suc k) (slice_set timers k c.0))) (sym (set_rest delays k c.1)))
@@ -108,8 +101,8 @@ module _ (draw : ℕ → ℕ → ℕ) (first time : ℕ) (seen values : List ℕ
       ap (λ (xs : List Named). behind (map (option_map timer_in) (take k timers)) (take k delays) (renewed_named draw first time seen values k xs (map (option_map timer_in) (drop k timers)) (drop k delays))) (all_taken acts k over).1
       ∙ ap (λ (xs : List (Option Timer)). law.AllClocks (map (option_map timer_in) (take k timers) ++ map (option_map timer_in) xs) (take k delays ++ drop k delays)) (all_taken timers k (omega (arith, over, timed))).1
       ∙ ap (λ (xs : List ℕ). law.AllClocks (map (option_map timer_in) (take k timers) ++ []) (take k delays ++ xs)) (all_taken delays k (omega (arith, over, counted))).1
-      ∙ ap (λ (xs : List (Option net.Timer)). law.AllClocks xs (take k delays ++ [])) (ended (map (option_map timer_in) (take k timers)) ∙ ap (map (option_map timer_in)) (all_taken timers k (omega (arith, over, timed))).0)
-      ∙ ap (λ (xs : List ℕ). law.AllClocks (map (option_map timer_in) timers) xs) (ended (take k delays) ∙ (all_taken delays k (omega (arith, over, counted))).0)
+      ∙ ap (λ (xs : List (Option net.Timer)). law.AllClocks xs (take k delays ++ [])) (nothing_behind (map (option_map timer_in) (take k timers)) ∙ ap (map (option_map timer_in)) (all_taken timers k (omega (arith, over, timed))).0)
+      ∙ ap (λ (xs : List ℕ). law.AllClocks (map (option_map timer_in) timers) xs) (nothing_behind (take k delays) ∙ (all_taken delays k (omega (arith, over, counted))).0)
 
 -- within the list its default doesn't matter
 pub at_any : (xs : List ℕ) (k d : ℕ) → k < length xs → slice_index_or xs k d ≡ slice_index xs k
@@ -117,8 +110,8 @@ at_any [] k d h = absurd (omega (arith, h))
 at_any (x ∷ xs) zero d h = refl
 at_any (x ∷ xs) (suc k) d h = at_any xs k d (omega (arith, h))
 
-pub more_by : (r : Result Clock Trap) (c : Clock) (n : ℕ) → r ≡ Ok c → IfOk r (λ x. x.1 ≤ n + 1) → c.1 ≤ n + 1
-more_by r c n is more = subst (λ (x : Result Clock Trap). IfOk x (λ y. y.1 ≤ n + 1)) is more
+pub more_by : (r : Result ClockValue Trap) (c : ClockValue) (n : ℕ) → r ≡ Ok c → IfOk r (λ x. x.1 ≤ n + 1) → c.1 ≤ n + 1
+more_by r c n is more = subst (λ (x : Result ClockValue Trap). IfOk x (λ y. y.1 ≤ n + 1)) is more
 
 -- a number more is no greater than the most, and one
 pub numbered : (old now : List ℕ) (k n most : ℕ) → k < length now → ((i : ℕ) → k ≤ i → slice_index now i ≡ slice_index old i) → length now ≡ length old

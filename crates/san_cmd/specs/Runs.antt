@@ -11,9 +11,9 @@ use Rattle.san_base.specs.declared.status.Status.TheVariants as status
 use Rattle.san_net.specs.Network.{Network}
 use Rattle.san_plain.specs.Reports.{Opened, ending_of, report_of}
 use Rattle.san_serve.specs.Accepted.{IsRefusedText, accepted}
-use Rattle.san_serve.specs.Answers.{Answers}
+use Rattle.san_serve.specs.Answers.{StatusSays}
 use Rattle.san_serve.specs.Bounds.{model_bound}
-use Rattle.san_serve.specs.Tasks.{Meaning}
+use Rattle.san_serve.specs.Tasks.{TaskMeaning}
 use Rattle.san_serve.specs.declared.task.Served.{Served}
 use Rattle.san_serve.specs.declared.task.Served.TheVariants as served
 use Rattle.san_words.specs.Commands.{IsTaken}
@@ -37,11 +37,11 @@ abbrev pub RunsText : Orders → Served → List ℕ → Option (List ℕ) → O
 RunsText o s text old new = (network : Network) × (accepted text ≡ Ok network) × Ran (run_by network o) s old new
 
 -- a model text is run, or refused
-abbrev pub run_meaning : Orders → Meaning
+abbrev pub run_meaning : Orders → TaskMeaning
 run_meaning o = record { bound = model_bound; refuses = IsRefusedText; says = RunsText o }
 
 -- by the status: the command took the words, and what they order was run
 abbrev pub Runs : App → (Texts → Orders → Type 0) → List Text → Status → Option (List ℕ) → Option (List ℕ) → Option (List ℕ) → Option (List ℕ) → Type 0
 Runs app Say words status.Words left rest old new = (IsTaken app words → ⊥) × (rest ≡ left) × (new ≡ old)
 Runs app Say words status.NoMemory left rest old new = new ≡ old
-Runs app Say words s left rest old new = (o : Orders) × IsTaken app words × Say (texts_of app words) o × Answers (run_meaning o) s left rest old new
+Runs app Say words s left rest old new = (o : Orders) × IsTaken app words × Say (texts_of app words) o × StatusSays (run_meaning o) s left rest old new

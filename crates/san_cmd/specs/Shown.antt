@@ -7,7 +7,7 @@ use Rattle.san_show.specs.Canonical.{canonical}
 use Rattle.san_net.specs.Network.{Network}
 use Rattle.san_serve.specs.Accepted.{IsRefusedText, accepted}
 use Rattle.san_serve.specs.Bounds.{model_bound}
-use Rattle.san_serve.specs.Tasks.{Meaning}
+use Rattle.san_serve.specs.Tasks.{TaskMeaning}
 use Rattle.san_serve.specs.declared.task.Served.{Served}
 use Rattle.san_serve.specs.declared.task.Served.TheVariants as served
 
@@ -22,5 +22,5 @@ ShowsText served.WriteFault text old new = (canon : List ℕ) × IsShown text ca
 ShowsText s text old new = ⊥
 
 -- a model text is shown, or refused
-abbrev pub show_meaning : Meaning
+abbrev pub show_meaning : TaskMeaning
 show_meaning = record { bound = model_bound; refuses = IsRefusedText; says = ShowsText }

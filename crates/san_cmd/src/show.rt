@@ -3,7 +3,7 @@
 ghost use Rattle.std.specs.Prelude.{◌≡◌, ◌<◌, ◌↔◌, ◌⊎◌, List, ℕ, Some, length};
 ghost use Rattle.san_base.specs.Flow.{CountRose};
 ghost use Rattle.san_serve.specs.Accepted.{IsRefusedText};
-ghost use Rattle.san_serve.specs.Answers.{Answers, IsRefused};
+ghost use Rattle.san_serve.specs.Answers.{StatusSays, IsRefused};
 ghost use Rattle.san_serve.specs.Bounds.{model_bound};
 ghost use Rattle.san_serve.specs.Notes.{IsLine, Noted};
 ghost use Rattle.san_serve.specs.Settled.{IsHindered};
@@ -66,7 +66,7 @@ pub fn show_words<S: Source, K: Sink, N: Sink>(
 ) -> Status
     ensures words { (result ≡ Status.Words) ↔ (0 < length words.now) }
     ensures unread { result ≡ Status.Words → (source.new ≡ source.old) × (sink.new ≡ sink.old) }
-    ensures answer { Answers show_meaning result (S.left source.old) (S.left source.new) (K.held sink.old)
+    ensures answer { StatusSays show_meaning result (S.left source.old) (S.left source.new) (K.held sink.old)
         (K.held sink.new) }
     ensures complete { (bytes : List ℕ) → S.left source.old ≡ Some bytes → length words.now ≡ 0
         → IsHindered result ⊎ (result ≡ shown_status bytes) }

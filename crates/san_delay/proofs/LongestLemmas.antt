@@ -11,12 +11,12 @@ use Rattle.san_expr.specs.Meaning.{Meaning, settled, go_on, then_do}
 use Rattle.san_expr.specs.Value.{value_of}
 use Rattle.san_expr.specs.declared.dist.Dist.{Dist}
 use Rattle.san_expr.specs.declared.dist.Dist.TheVariants.{Det, Uniform, Geom, Table}
-use Rattle.san_delay.specs.Longest.{IsAtMost, IsLongest, longest_of, upper, greatest}
+use Rattle.san_delay.specs.Longest.{IsNoLonger, IsLongest, longest_of, upper, greatest}
 use Rattle.san_delay.specs.Sound.{IsDelay, IsSound, IsTable}
 use Rattle.san_delay.proofs.SeriesLemmas.{geometric_falls}
 use Rattle.san_delay.proofs.TableLemmas.{first_delay, weight, chosen_most, chosen_greatest}
 
-at_most_itself : (t : Ticks) → IsAtMost t t
+at_most_itself : (t : Ticks) → IsNoLonger t t
 at_most_itself (Ok a) = omega arith
 at_most_itself (Err t) = refl
 

@@ -26,13 +26,13 @@ longest_of (dist.Geom p q) = settled (Ok (geometric p q 0))
 longest_of (dist.Table entries) = settled (Ok (greatest entries))
 
 -- at most as long, or the same trap
-abbrev pub IsAtMost : Ticks → Ticks → Type 0
-IsAtMost (Ok a) (Ok b) = a ≤ b
-IsAtMost (Ok a) (Err t) = ⊥
-IsAtMost (Err t) (Ok b) = ⊥
-IsAtMost (Err s) (Err t) = s ≡ t
+abbrev pub IsNoLonger : Ticks → Ticks → Type 0
+IsNoLonger (Ok a) (Ok b) = a ≤ b
+IsNoLonger (Ok a) (Err t) = ⊥
+IsNoLonger (Err t) (Ok b) = ⊥
+IsNoLonger (Err s) (Err t) = s ≡ t
 
 -- of all draws' answers the greatest, which one of them gives
 pub record IsLongest (answers : ℕ → Ticks) (longest : Ticks) : Type 0 where
-  pub most : (u : ℕ) → u < 2 ^ 64 → IsAtMost (answers u) longest
+  pub most : (u : ℕ) → u < 2 ^ 64 → IsNoLonger (answers u) longest
   pub given : (u : ℕ) × (u < 2 ^ 64) × (answers u ≡ longest)

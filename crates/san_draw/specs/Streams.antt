@@ -4,7 +4,7 @@ use Rattle.rand_chacha.specs.ChaCha.{ChaCha, key_of}
 use Rattle.san_draw.specs.Key.{key_bytes}
 
 -- the seed, and how many streams there are
-pub record Opened : Type 0 where
+pub record Seeded : Type 0 where
   pub seed : ℕ
   pub streams : ℕ
 

@@ -19,9 +19,9 @@ pub struct Streams {
 
 impl Model for Streams {
     ghost use Rattle.std.specs.Prelude.{vec_len};
-    ghost use Rattle.san_draw.specs.Streams.{AreOf, Opened};
+    ghost use Rattle.san_draw.specs.Streams.{AreOf, Seeded};
 
-    ghost Value = { Opened };
+    ghost Value = { Seeded };
 
     ghost view = { λ s. record { seed = s.seed; streams = vec_len s.generators } };
 

@@ -4,8 +4,8 @@ use Rattle.std.proofs.Common.{ℕ, ◌≡◌, ◌∙◌, ◌<◌, ap, sym, refl,
 use Rattle.std.specs.Prelude.{slice_index}
 use Rattle.std.proofs.lemmas.Bool.Decides.{eqb_tells}
 use Rattle.san_base.specs.declared.ending.Trap.{Trap}
-use Rattle.san_expr.specs.View.{Known, ViewState, Agrees, IsAt, IsSeen, Reads, Answers, assigned, or_else, with, is_known}
-use Rattle.san_expr.specs.Meaning.{Outcome, Meaning, settled, value_at, put_at, joined, go_on, then_do}
+use Rattle.san_expr.specs.View.{Known, ViewState, Agrees, IsAt, IsSeen, ReadsCell, Answers, assigned, or_else, with, is_known}
+use Rattle.san_expr.specs.Meaning.{Evaluation, Meaning, settled, value_at, put_at, joined, go_on, then_do}
 use Rattle.san_expr.specs.Meets.{Meets, Evaluates, marking_of}
 use Rattle.san_expr.proofs.ViewLemmas.{agrees_before, slice_index-over, over-with, with_here, with_there}
 
@@ -52,8 +52,8 @@ module _ {T U : Type 0} where
       let is : (m : List ℕ) → Agrees s2 m → then_do a next (marking_of s0 m) ≡ joined (a (marking_of s0 m)) (next x (marking_of s1 m)) =
       λ m h. then_is a next (marking_of s0 m) (marking_of s1 m) x (p.answer m (before m h)) (p.left m (before m h)) in
       record {
-        answer = λ m h. ap (λ (o : Outcome U). o.answer) (is m h) ∙ q.answer m h;
-        left = λ m h. q.left m h ∙ sym (ap (λ (o : Outcome U). o.left) (is m h));
+        answer = λ m h. ap (λ (o : Evaluation U). o.answer) (is m h) ∙ q.answer m h;
+        left = λ m h. q.left m h ∙ sym (ap (λ (o : Evaluation U). o.left) (is m h));
         looks = λ m h n.
             let A = a (marking_of s0 m) in
             let B = next x (marking_of s1 m) in
@@ -61,18 +61,18 @@ module _ {T U : Type 0} where
             ∙ ap (λ (b : Bool). b || (not (is_known (s1.own n)) && B.looks n)) (p.looks m (before m h) n)
             ∙ ap (λ (b : Bool). (is_known (s0.first n) || (not (is_known (s0.own n)) && A.looks n)) || (not b && B.looks n)) (p.sets m (before m h) n)
             ∙ looks_both (is_known (s0.first n)) (is_known (s0.own n)) (A.looks n) (A.sets n) (B.looks n)
-            ∙ sym (ap (λ (o : Outcome U). is_known (s0.first n) || (not (is_known (s0.own n)) && o.looks n)) (is m h));
+            ∙ sym (ap (λ (o : Evaluation U). is_known (s0.first n) || (not (is_known (s0.own n)) && o.looks n)) (is m h));
         sets = λ m h n.
             let A = a (marking_of s0 m) in
             let B = next x (marking_of s1 m) in
             q.sets m h n
             ∙ ap (λ (b : Bool). b || B.sets n) (p.sets m (before m h) n)
             ∙ or_assoc (is_known (s0.own n)) (A.sets n) (B.sets n)
-            ∙ sym (ap (λ (o : Outcome U). is_known (s0.own n) || o.sets n) (is m h));
+            ∙ sym (ap (λ (o : Evaluation U). is_known (s0.own n) || o.sets n) (is m h));
         unset = λ m h n e.
             let A = a (marking_of s0 m) in
             let B = next x (marking_of s1 m) in
-            let none = or_none (A.sets n) (B.sets n) (sym (ap (λ (o : Outcome U). o.sets n) (is m h)) ∙ e) in
+            let none = or_none (A.sets n) (B.sets n) (sym (ap (λ (o : Evaluation U). o.sets n) (is m h)) ∙ e) in
             q.unset m h n none.1 ∙ p.unset m (before m h) n none.0;
         grows = λ n v h. q.grows n v (p.grows n v h);
         seen = λ n v none is_v.
@@ -89,11 +89,11 @@ module _ {T U : Type 0} where
       let is : (m : List ℕ) → Agrees s1 m → then_do a next (marking_of s0 m) ≡ go_on (Err t) (a (marking_of s0 m)) next =
       λ m h. stop_is a next (marking_of s0 m) t (p.answer m h) in
       record {
-        answer = λ m h. ap (λ (o : Outcome U). o.answer) (is m h);
-        left = λ m h. p.left m h ∙ sym (ap (λ (o : Outcome U). o.left) (is m h));
-        looks = λ m h n. p.looks m h n ∙ sym (ap (λ (o : Outcome U). is_known (s0.first n) || (not (is_known (s0.own n)) && o.looks n)) (is m h));
-        sets = λ m h n. p.sets m h n ∙ sym (ap (λ (o : Outcome U). is_known (s0.own n) || o.sets n) (is m h));
-        unset = λ m h n e. p.unset m h n (sym (ap (λ (o : Outcome U). o.sets n) (is m h)) ∙ e);
+        answer = λ m h. ap (λ (o : Evaluation U). o.answer) (is m h);
+        left = λ m h. p.left m h ∙ sym (ap (λ (o : Evaluation U). o.left) (is m h));
+        looks = λ m h n. p.looks m h n ∙ sym (ap (λ (o : Evaluation U). is_known (s0.first n) || (not (is_known (s0.own n)) && o.looks n)) (is m h));
+        sets = λ m h n. p.sets m h n ∙ sym (ap (λ (o : Evaluation U). is_known (s0.own n) || o.sets n) (is m h));
+        unset = λ m h n e. p.unset m h n (sym (ap (λ (o : Evaluation U). o.sets n) (is m h)) ∙ e);
         grows = p.grows;
         seen = p.seen;
         places = p.places;
@@ -231,7 +231,7 @@ left : (a b : Bool) → a ≡ true → (a || b) ≡ true
 left a b e = ap (λ (x : Bool). x || b) e
 
 -- a read is the evaluation of one cell
-pub evaluates_read : (old new : ViewState) (p v : ℕ) → p < old.places → Reads old new p v → Evaluates old new (value_at p) (Ok (pos v))
+pub evaluates_read : (old new : ViewState) (p v : ℕ) → p < old.places → ReadsCell old new p v → Evaluates old new (value_at p) (Ok (pos v))
 evaluates_read old new p v within r = by_cases (old.own p) refl (old.first p) refl r
   where
     by_cases : (o : Option ℕ) → old.own p ≡ o → (f : Option ℕ) → old.first p ≡ f → Answers o f old new p v → Evaluates old new (value_at p) (Ok (pos v))

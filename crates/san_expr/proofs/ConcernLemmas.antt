@@ -1,5 +1,6 @@
 -- Which cells evaluations have to do with.
 use Rattle.san_base.proofs.Bools.{or_none, holds_left, holds_right}
+use Rattle.san_base.proofs.NumberTests.{same_number, number_itself}
 use Rattle.std.proofs.Common.{ℕ, zero, suc, ◌+◌, ◌≤◌, ◌<◌, ◌≡◌, ◌∙◌, ap, sym, refl, subst, arith, Bool, true, false, not, cond, ◌&&◌, ◌||◌, ◌⊎◌, inl, inr, IsTrue, nat_eq, nat_lt, nat_le, Result, Ok, Err, ℤ, pos, negsuc, List, [], ◌∷◌, map, length}
 use Rattle.std.specs.Prelude.{slice_index, slice_set}
 use Rattle.std.proofs.lemmas.Bool.{leb-true, ltb-true, lt-ltb, le-leb}
@@ -36,20 +37,6 @@ one_of P false k f g h = g h
 
 and_from : (a b : Bool) → IsTrue a → IsTrue b → IsTrue (a && b)
 and_from a b h k = ap (λ (x : Bool). x && b) h ∙ k
-
-is_cell : (q p : ℕ) → nat_eq q p ≡ true → q ≡ p
-is_cell q p h = by_test (eqb_tells q p)
-  where
-    by_test : ((nat_eq q p ≡ true) × (q ≡ p)) ⊎ ((nat_eq q p ≡ false) × (q ≡ p → ⊥)) → q ≡ p
-    by_test (inl t) = t.1
-    by_test (inr t) = cc
-
-is_itself : (q : ℕ) → nat_eq q q ≡ true
-is_itself q = by_test (eqb_tells q q)
-  where
-    by_test : ((nat_eq q q ≡ true) × (q ≡ q)) ⊎ ((nat_eq q q ≡ false) × (q ≡ q → ⊥)) → nat_eq q q ≡ true
-    by_test (inl t) = t.0
-    by_test (inr t) = absurd (t.1 refl)
 
 not_cell : (q p : ℕ) → nat_eq q p ≡ false → q ≡ p → ⊥
 not_cell q p h e = by_test (eqb_tells q p)
@@ -99,7 +86,7 @@ module _ (cells : CellSet) where
 
   pub concerns_value_at : (p : ℕ) → IsTrue (cells p) → Concerns cells (value_at p)
   concerns_value_at p within = record {
-    looks = λ m q h. subst (λ (n : ℕ). IsTrue (cells n)) (sym (is_cell q p h)) within;
+    looks = λ m q h. subst (λ (n : ℕ). IsTrue (cells n)) (sym (same_number q p h)) within;
     sets = λ m q h. absurd cc;
     alike = λ m n e. record { answer = ap (λ (x : ℕ). Ok (pos x)) (e.same p within); looks = λ q. refl; sets = λ q. refl; left = e };
     unset = λ m q h. refl;
@@ -110,7 +97,7 @@ module _ (cells : CellSet) where
   pub concerns_put_at : (p v : ℕ) → IsTrue (cells p) → v ≤ MAX_TOKENS → Concerns cells (put_at p v)
   concerns_put_at p v within few = record {
     looks = λ m q h. absurd cc;
-    sets = λ m q h. subst (λ (n : ℕ). IsTrue (cells n)) (sym (is_cell q p h)) within;
+    sets = λ m q h. subst (λ (n : ℕ). IsTrue (cells n)) (sym (same_number q p h)) within;
     alike = λ m n e. record {
       answer = refl;
       looks = λ q. refl;
@@ -247,7 +234,7 @@ Held = (e : Expr) × IsConcerned e
 one_level : (y : Expr-F Held) (cells : CellSet) → IsPartOf (mentions_step (map-Expr Held CellSet (λ h. mentions h.0) y)) cells
     → Concerns cells (value_step (map-Expr Held (Meaning ℤ) (λ h. value_of h.0) y))
 one_level (Expr-F.Number n) cells part = concerns_settled cells (Ok n)
-one_level (Expr-F.Place p) cells part = concerns_value_at cells p (part p (is_itself p))
+one_level (Expr-F.Place p) cells part = concerns_value_at cells p (part p (number_itself p))
 one_level (Expr-F.Cell first length index) cells part =
     concerns_then cells (value_of index.0) (λ x. then_do (settled (cell_of first length x)) value_at)
     (index.1 cells (λ q h. part q (holds_right (array_cells first length q) (mentions index.0 q) h)))
@@ -306,7 +293,7 @@ one_stmt : (y : Stmt-F HeldStmt) (cells : CellSet) → IsPartOf (stmt_mentions_s
     → Concerns cells (effect_step (map-Stmt HeldStmt Acts (λ h. effect_of h.0) y))
 one_stmt (Stmt-F.Set p e) cells part =
     concerns_then cells (value_of e) (assign_at p) (concerned e cells (λ q h. part q (holds_right (nat_eq q p) (mentions e q) h)))
-    (λ x. concerns_assign cells p x (part p (holds_left (nat_eq p p) (mentions e p) (is_itself p))))
+    (λ x. concerns_assign cells p x (part p (holds_left (nat_eq p p) (mentions e p) (number_itself p))))
 one_stmt (Stmt-F.SetCell first length index e) cells part =
     concerns_then cells (value_of index) (λ x. then_do (settled (cell_of first length x)) (λ p. then_do (value_of e) (assign_at p)))
     (concerned index cells (λ q h. part q (holds_right (array_cells first length q) (mentions index q || mentions e q) (holds_left (mentions index q) (mentions e q) h))))

@@ -74,7 +74,7 @@ rest_traps s0 s1 op right inner x t read undecided same answer p =
     rest_open s0 s1 op right x (Err t) undecided
     (evaluates_stop s0 s1 (value_of right) (λ z. settled (applied op x z)) t (given s0 s1 inner right read (Err t) same answer p))
 
-value_of-place : (p : ℕ) → value_of (variant.Place p) ≡ value_at p
+pub value_of-place : (p : ℕ) → value_of (variant.Place p) ≡ value_at p
 unfolding view.roll-Expr denote.Hole.Carrier.roll
 value_of-place p = fold-roll-Expr (Meaning ℤ) value_step (Expr-F.Place p)
 

@@ -1,7 +1,7 @@
 -- Which cells an evaluation has to do with.
 use Rattle.std.specs.Prelude.{ℕ, ◌≡◌, ◌≤◌, false, IsTrue, List, length, slice_index}
 use Rattle.san_base.specs.declared.limits.TheConstants.{MAX_TOKENS}
-use Rattle.san_expr.specs.Meaning.{Outcome, Meaning}
+use Rattle.san_expr.specs.Meaning.{Evaluation, Meaning}
 use Rattle.san_expr.specs.Mentions.{CellSet}
 
 abbrev pub IsPartOf : CellSet → CellSet → Type 0
@@ -13,7 +13,7 @@ pub record AreEqualOn (cells : CellSet) (m n : List ℕ) : Type 0 where
   pub same : (p : ℕ) → IsTrue (cells p) → slice_index m p ≡ slice_index n p
 
 -- two outcomes that differ in other cells alone
-pub record AreAlike {T : Type 0} (cells : CellSet) (a b : Outcome T) : Type 0 where
+pub record AreAlike {T : Type 0} (cells : CellSet) (a b : Evaluation T) : Type 0 where
   pub answer : a.answer ≡ b.answer
   pub looks : (p : ℕ) → a.looks p ≡ b.looks p
   pub sets : (p : ℕ) → a.sets p ≡ b.sets p

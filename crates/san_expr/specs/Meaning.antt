@@ -3,14 +3,14 @@ use Rattle.std.specs.Prelude.{ℕ, Bool, false, not, ◌||◌, ◌&&◌, nat_eq,
 use Rattle.san_base.specs.declared.ending.Trap.{Trap}
 
 -- the answer or the trap, the marking as it is then left, the cells that are looked at, the cells that are assigned
-pub record Outcome (T : Type 0) : Type 0 where
+pub record Evaluation (T : Type 0) : Type 0 where
   pub answer : Result T Trap
   pub left : List ℕ
   pub looks : ℕ → Bool
   pub sets : ℕ → Bool
 
 abbrev pub Meaning : Type 0 → Type 0
-Meaning T = List ℕ → Outcome T
+Meaning T = List ℕ → Evaluation T
 
 abbrev pub no_cell : ℕ → Bool
 no_cell q = false
@@ -31,7 +31,7 @@ abbrev pub put_at : ℕ → ℕ → Meaning (Unit {0})
 put_at p v m = record { answer = Ok tt; left = slice_set m p v; looks = no_cell; sets = one_cell p }
 
 -- one after another: what the first assigned, the second needs not look at
-abbrev pub joined : {T U : Type 0} → Outcome T → Outcome U → Outcome U
+abbrev pub joined : {T U : Type 0} → Evaluation T → Evaluation U → Evaluation U
 joined a b = record {
   answer = b.answer;
   left = b.left;
@@ -40,7 +40,7 @@ joined a b = record {
 }
 
 -- goes on with an answer, and ends with a trap
-abbrev pub go_on : {T U : Type 0} → Result T Trap → Outcome T → (T → Meaning U) → Outcome U
+abbrev pub go_on : {T U : Type 0} → Result T Trap → Evaluation T → (T → Meaning U) → Evaluation U
 go_on (Ok x) a next = joined a (next x a.left)
 go_on (Err t) a next = record { answer = Err t; left = a.left; looks = a.looks; sets = a.sets }
 

@@ -61,8 +61,8 @@ Answers None (Some w) old new p v = (v ≡ w) × (new ≡ old)
 Answers None None old new p v = IsSeen old.behind p v × (new ≡ record old { first = with old.first p v })
 
 -- a read gives the own value, else the first one, else a value that it enters as the first one
-abbrev pub Reads : ViewState → ViewState → ℕ → ℕ → Type 0
-Reads old new p v = Answers (old.own p) (old.first p) old new p v
+abbrev pub ReadsCell : ViewState → ViewState → ℕ → ℕ → Type 0
+ReadsCell old new p v = Answers (old.own p) (old.first p) old new p v
 
 -- an assignment
 abbrev pub assigned : ViewState → ℕ → ℕ → ViewState

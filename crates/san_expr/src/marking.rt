@@ -1,6 +1,6 @@
 //! The plain view: a whole marking.
 ghost use Rattle.std.specs.Prelude.{◌≡◌, ◌<◌, ◌≤◌, length};
-ghost use Rattle.san_expr.specs.View.{ViewState, Reads, assigned, plain};
+ghost use Rattle.san_expr.specs.View.{ViewState, ReadsCell, assigned, plain};
 
 use crate::view::{Cells, Marked};
 use std::marker::Model;

@@ -1,6 +1,6 @@
 //! Views of a marking: what can be read and assigned.
 ghost use Rattle.std.specs.Prelude.{◌≡◌, ◌<◌, ◌≤◌};
-ghost use Rattle.san_expr.specs.View.{ViewState, Reads, assigned};
+ghost use Rattle.san_expr.specs.View.{ViewState, ReadsCell, assigned};
 
 use san_base::MAX_TOKENS;
 
@@ -11,7 +11,7 @@ pub trait Marked {
     /// The view's own value of a cell, else the first one that was read of it.
     fn read(&mut self, place: u32) -> u32
         requires { place < (view_state self.old).places }
-        ensures { Reads (view_state self.old) (view_state self.new) place result };
+        ensures { ReadsCell (view_state self.old) (view_state self.new) place result };
 }
 
 /// A view whose cells can be assigned.

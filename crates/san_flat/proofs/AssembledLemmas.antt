@@ -9,7 +9,7 @@ use Rattle.san_flat.proofs.LeafLemmas.{home-found}
 use Rattle.san_flat.specs.Homes.{CellHome, homes_in, same}
 use Rattle.san_flat.specs.Networks.{network_in, network_of_model, value_at}
 use Rattle.san_flat.specs.inner.Models.{homes_of, leaves_of, parts_from, values_of}
-use Rattle.san_flat.specs.inner.Sightings.{AreAmong, IsSeen, picked}
+use Rattle.san_flat.specs.inner.Sightings.{AreAmong, HasSeen, picked}
 use Rattle.san_flat.specs.Paths.{path_text}
 use Rattle.san_flat.specs.declared.seen.Seen.{Seen}
 use Rattle.san_net.specs.Network.{network_of}
@@ -43,7 +43,7 @@ picked-once f g (k ∷ ks) = by_test (nat_eq (f k) 2) (picked-once f g ks)
     by_test false rest = ap (λ vs. g k ∷ vs) rest
 
 -- the initial values in the order of the places
-pub values-ordered : (homes : List CellHome) (initial : List ℕ) (s : Seen) → IsSeen homes initial s → picked true s.counts.items s.values.items ++ picked false s.counts.items s.values.items ≡ map (value_at homes initial) (ordered same homes)
+pub values-ordered : (homes : List CellHome) (initial : List ℕ) (s : Seen) → HasSeen homes initial s → picked true s.counts.items s.values.items ++ picked false s.counts.items s.values.items ≡ map (value_at homes initial) (ordered same homes)
 values-ordered homes initial s w =
     let f = often same homes in
     let g = value_at homes initial in

@@ -1,5 +1,5 @@
 -- What the loops of a flattening keep, over plain lists.
-use Rattle.san_check.proofs.FreshLemmas.{some_same}
+use Rattle.san_base.proofs.NumberTests.{some_same}
 use Rattle.std.proofs.Common.{◌≡◌, ℕ, zero, suc, ◌+◌, ◌<◌, ◌≤◌, Bool, true, false, cond, List, [], ◌∷◌, ◌++◌, length, refl, ap, sym, ◌∙◌, subst, arith, map, take, drop, Some, None, filter, nat_eq, append_assoc, append-nil, length-append, get_or, fold}
 use Rattle.std.specs.Prelude.{position, slice_get, slice_index, is_some}
 use Rattle.std.specs.List.{count_by, list_any, position_or_len}

@@ -1,6 +1,6 @@
 -- A leaf of a model: where it stands in the tree, what it is, the homes of its cells.
 use Rattle.san_base.proofs.Bools.{or_right}
-use Rattle.san_check.proofs.FreshLemmas.{some_same}
+use Rattle.san_base.proofs.NumberTests.{some_same}
 use Rattle.std.proofs.Common.{◌≡◌, ℕ, zero, suc, ◌<◌, ◌≤◌, true, ◌||◌, List, [], ◌∷◌, length, ap, sym, ◌∙◌, subst, arith, Some}
 use Rattle.std.specs.Prelude.{slice_get}
 use Rattle.std.specs.List.{All, list_any}

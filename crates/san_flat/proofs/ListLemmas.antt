@@ -1,5 +1,5 @@
 -- Lists in which nothing stands twice, by index.
-use Rattle.san_check.proofs.FreshLemmas.{some_same}
+use Rattle.san_base.proofs.NumberTests.{some_same}
 use Rattle.std.proofs.Common.{◌≡◌, ℕ, zero, suc, List, [], ◌∷◌, ◌++◌, refl, ap, sym, ◌∙◌, arith, map, inl, inr, ◌⊎◌, Some}
 use Rattle.std.specs.Prelude.{slice_get, unwrap_or}
 use Rattle.san_net.specs.Apart.{AreApart}

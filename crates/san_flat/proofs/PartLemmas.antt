@@ -1,5 +1,5 @@
 -- The parts of a model, one by one.
-use Rattle.san_check.proofs.FreshLemmas.{some_same}
+use Rattle.san_base.proofs.NumberTests.{some_same}
 use Rattle.std.proofs.Common.{◌≡◌, ℕ, zero, suc, ◌+◌, List, [], ◌∷◌, length, refl, ap, sym, ◌∙◌, arith, take, Some}
 use Rattle.std.specs.Prelude.{slice_get}
 use Rattle.std.proofs.lemmas.List.Sums.{sum_by-cons}

@@ -8,7 +8,7 @@ use Rattle.std.proofs.lemmas.List.{length-map, map-append}
 use Rattle.san_flat.proofs.HomeLemmas.{same-equiv}
 use Rattle.san_flat.specs.Homes.{CellHome, same, home_of_key}
 use Rattle.san_flat.specs.Networks.{value_at}
-use Rattle.san_flat.specs.inner.Sightings.{IsSeen, Sees}
+use Rattle.san_flat.specs.inner.Sightings.{HasSeen, Sees}
 use Rattle.san_flat.specs.declared.home.HomeKey.{HomeKey}
 use Rattle.san_flat.specs.declared.seen.Seen.{Seen}
 use Rattle.san_net.proofs.SeenLemmas.{list_any-map}
@@ -76,24 +76,24 @@ pub values-again : (homes : List CellHome) (initial : List ℕ) (ks : List CellH
 values-again homes initial ks h v e all = sym (values-old homes initial h v e ks (λ k t. sym (all k) ∙ t))
 
 -- as many keys as there are different homes
-keys-counted : (homes : List CellHome) (initial : List ℕ) (s : Seen) → IsSeen homes initial s → length s.homes.keys ≡ length (firsts same homes)
+keys-counted : (homes : List CellHome) (initial : List ℕ) (s : Seen) → HasSeen homes initial s → length s.homes.keys ≡ length (firsts same homes)
 keys-counted homes initial s w = sym (length-map s.homes.keys home_of_key) ∙ ap length w.recorded.keys
 
-pub sees : (homes : List CellHome) (initial : List ℕ) (s : Seen) (n : ℕ) → n ≡ length s.homes.keys → IsSeen homes initial s → Sees (nat_le n 65536) homes initial s
+pub sees : (homes : List CellHome) (initial : List ℕ) (s : Seen) (n : ℕ) → n ≡ length s.homes.keys → HasSeen homes initial s → Sees (nat_le n 65536) homes initial s
 sees homes initial s n e w = by_test (leb_tells n 65536)
   where
     by_test : ((nat_le n 65536 ≡ true) × (n ≤ 65536)) ⊎ ((nat_le n 65536 ≡ false) × (65536 < n)) → Sees (nat_le n 65536) homes initial s
     by_test (inl (t, few)) = subst (λ b. Sees b homes initial s) (sym t) (w, omega (arith, e, few))
     by_test (inr (t, many)) = subst (λ b. Sees b homes initial s) (sym t) (omega (arith, e, many, keys-counted homes initial s w))
 
-pub few-places : (homes : List CellHome) (initial : List ℕ) (s : Seen) → IsSeen homes initial s → length s.homes.keys ≤ 65536 → length (firsts same homes) ≤ 65536
+pub few-places : (homes : List CellHome) (initial : List ℕ) (s : Seen) → HasSeen homes initial s → length s.homes.keys ≤ 65536 → length (firsts same homes) ≤ 65536
 few-places homes initial s w few = omega (arith, few, keys-counted homes initial s w)
 
-counts-long : (homes : List CellHome) (initial : List ℕ) (s : Seen) → IsSeen homes initial s → length s.counts.items ≡ length (map home_of_key s.homes.keys)
+counts-long : (homes : List CellHome) (initial : List ℕ) (s : Seen) → HasSeen homes initial s → length s.counts.items ≡ length (map home_of_key s.homes.keys)
 counts-long homes initial s w = ap length w.recorded.counts ∙ length-map (map home_of_key s.homes.keys) (often same homes)
 
-pub counts_few : (homes : List CellHome) (initial : List ℕ) (s : Seen) → IsSeen homes initial s → length s.homes.keys ≤ 65536 → length s.counts.items ≤ 65536
+pub counts_few : (homes : List CellHome) (initial : List ℕ) (s : Seen) → HasSeen homes initial s → length s.homes.keys ≤ 65536 → length s.counts.items ≤ 65536
 counts_few homes initial s w few = omega (arith, few, counts-long homes initial s w, length-map s.homes.keys home_of_key)
 
-pub counts_even : (homes : List CellHome) (initial : List ℕ) (s : Seen) → IsSeen homes initial s → length s.counts.items ≡ length s.values.items
+pub counts_even : (homes : List CellHome) (initial : List ℕ) (s : Seen) → HasSeen homes initial s → length s.counts.items ≡ length s.values.items
 counts_even homes initial s w = counts-long homes initial s w ∙ sym (ap length w.values ∙ length-map (map home_of_key s.homes.keys) (value_at homes initial))

@@ -8,7 +8,7 @@ ghost use Rattle.san_flat.specs.Homes.{CellHome, homes_in, same};
 ghost use Rattle.san_flat.specs.Networks.{leaf_count, network_of_model, value_at};
 ghost use Rattle.san_flat.specs.inner.Models.{act_count, place_count};
 ghost use Rattle.san_flat.specs.inner.Models.{homes_of, leaves_of, values_of};
-ghost use Rattle.san_flat.specs.inner.Sightings.{AreNumbers, IsEven, IsSeen, Sees};
+ghost use Rattle.san_flat.specs.inner.Sightings.{AreNumbers, IsEven, HasSeen, Sees};
 ghost use Rattle.san_net.specs.Numbering.{ordered};
 ghost use Rattle.san_net.specs.Laid.{IsNetwork};
 ghost use Rattle.san_tree.specs.Instances.{IsWithin};
@@ -84,9 +84,9 @@ fn places_of(alloc: Global, seen: Seen) -> Result<(Numbers, Vec<u32>), NoMemory>
     requires few { length seen.counts.items ≤ MAX_PLACES }
     requires even { length seen.counts.items ≡ length seen.values.items }
     ensures numbers { IfOk result (λ p. (homes : List CellHome) (initial : List ℕ)
-        → IsSeen homes initial seen → AreNumbers homes p.0) }
+        → HasSeen homes initial seen → AreNumbers homes p.0) }
     ensures initial { IfOk result (λ p. (homes : List CellHome) (initial : List ℕ)
-        → IsSeen homes initial seen → p.1.items ≡ map (value_at homes initial) (ordered same
+        → HasSeen homes initial seen → p.1.items ≡ map (value_at homes initial) (ordered same
         homes)) }
 {
     let initial = initial_of(alloc, seen.counts.as_slice(), seen.values.as_slice())?;

@@ -5,7 +5,7 @@ ghost use Rattle.san_tree.specs.declared.limits.TheConstants.{MAX_PATH};
 ghost use Rattle.san_flat.specs.Homes.{CellHome, homes_in, same, home_of_key};
 ghost use Rattle.san_flat.specs.Networks.{values_in};
 ghost use Rattle.san_flat.specs.inner.Models.{homes_from, values_from};
-ghost use Rattle.san_flat.specs.inner.Sightings.{IsEven, IsSeen, Sees, SeesAll};
+ghost use Rattle.san_flat.specs.inner.Sightings.{IsEven, HasSeen, Sees, SeesAll};
 ghost use Rattle.san_tree.specs.Instances.{IsWithin};
 
 use crate::home::{HomeKey, home_of};
@@ -36,8 +36,8 @@ fn count_again(counts: &mut Vec<u8>, at: usize)
 
 /// One more cell is noted.
 fn note(seen: &mut Seen, home: HomeKey, value: u32) -> Result<(), NoMemory>
-    ensures { OnOk result ((homes : List CellHome) (initial : List ℕ) → IsSeen homes initial seen.old
-        → IsSeen (homes ++ home_of_key home ∷ []) (initial ++ value ∷ []) seen.new) }
+    ensures { OnOk result ((homes : List CellHome) (initial : List ℕ) → HasSeen homes initial seen.old
+        → HasSeen (homes ++ home_of_key home ∷ []) (initial ++ value ∷ []) seen.new) }
 {
     let (at, new) = seen.homes.insert_full(home)?;
     if new {
@@ -53,7 +53,7 @@ fn note(seen: &mut Seen, home: HomeKey, value: u32) -> Result<(), NoMemory>
 /// One more cell is seen. Answers whether the homes are still no more than a network has places.
 #[tactic(auto, using(crate::proofs::SightingLemmas::sees))]
 fn see(seen: &mut Seen, home: HomeKey, value: u32) -> Result<bool, NoMemory>
-    ensures { IfOk result (λ fits. (homes : List CellHome) (initial : List ℕ) → IsSeen homes initial seen.old
+    ensures { IfOk result (λ fits. (homes : List CellHome) (initial : List ℕ) → HasSeen homes initial seen.old
         → Sees fits (homes ++ home_of_key home ∷ []) (initial ++ value ∷ []) seen.new) }
 {
     note(seen, home, value)?;

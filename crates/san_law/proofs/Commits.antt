@@ -3,6 +3,7 @@ use Rattle.std.proofs.Common.{ℕ, suc, ◌+◌, ◌<◌, ◌≤◌, ◌≡◌, 
 use Rattle.std.proofs.lemmas.Bool.{true≢false, eq-eqb}
 use Rattle.std.proofs.lemmas.List.{get_or-set_same, get_or-set_other, length-set, length-map, length-take, get_or-take, get_or-map}
 use Rattle.san_base.proofs.Bools.{or_none}
+use Rattle.san_base.proofs.NumberTests.{other_number, by_number}
 use Rattle.san_law.specs.Net.{Local, Net, Rated, Row, is_bare, least_timer, no_row}
 use Rattle.san_law.specs.State.{State, gather, part_of, place_of, row_of, scatter, slots_of}
 use Rattle.san_law.specs.Step.{Event}
@@ -13,7 +14,7 @@ use Rattle.san_law.specs.Core.{Core, leaf_of, put, rates_of, with_block}
 use Rattle.san_law.specs.Lawful.{IsLaid, IsLate}
 use Rattle.san_law.specs.Standing.{Each, Holds, IsFresh, Quiet, Serves, Sized, Upto, Waits, nothing_in}
 use Rattle.san_law.proofs.Places.{gather_scatter, own_is, privates_stay, put_is, scatter_length, take_scatter, untouched, writes_none}
-use Rattle.san_law.proofs.Flags.{by_leaf, eq_other, flag_is, length_flags}
+use Rattle.san_law.proofs.Flags.{flag_is, length_flags}
 use Rattle.san_law.proofs.Timers.{bare_like, least_like}
 use Rattle.san_law.proofs.Blocks.{Did, Keeps, last_after}
 
@@ -99,7 +100,7 @@ module _ (net : Net) (c : Core) (u t : State) (j burst count : ℕ) (es : List E
   }
 
   values_after : Each net (λ i. (slice_index_or (slice_set c.leaves j new_leaf) i no_leaf).values ≡ gather (privates (part_of net i)) t.marking)
-  values_after = by_leaf (λ i. i < length net.parts → (slice_index_or (slice_set c.leaves j new_leaf) i no_leaf).values ≡ gather (privates (part_of net i)) t.marking) j
+  values_after = by_number (λ i. i < length net.parts → (slice_index_or (slice_set c.leaves j new_leaf) i no_leaf).values ≡ gather (privates (part_of net i)) t.marking) j
       (λ h. ap (λ (x : LeafState). x.values) leaf_new ∙ (ap (own (part_of net j)) left_is ∙ own_is (part_of net j) t.marking))
       (λ i n h. ap (λ (x : LeafState). x.values) (leaf_same i n) ∙ (base.values i h
       ∙ (sym (privates_stay net.shared (slots_of net j) b.left.values u.marking (part_of net i) (base.sized.laid.apart i j (λ e. n (sym e))))
@@ -111,7 +112,7 @@ module _ (net : Net) (c : Core) (u t : State) (j burst count : ℕ) (es : List E
       (not_same i j k.0, k.1, k.2)
 
   unsettled_other : (i : ℕ) → i < length net.parts → i ≢ j → flag (flags_from (unsettled_after net j writes) 0 c.order.unsettled) i ≡ false → (flag c.order.unsettled i ≡ false) × (touches net writes i ≡ false)
-  unsettled_other i h n e = unsettled_by (nat_eq i j) (flag c.order.unsettled i) (touches net writes i) (eq_other i j n) (sym (flag_is (unsettled_after net j writes) i c.order.unsettled (omega (arith, h, base.sized.unsettled))) ∙ e)
+  unsettled_other i h n e = unsettled_by (nat_eq i j) (flag c.order.unsettled i) (touches net writes i) (other_number i j n) (sym (flag_is (unsettled_after net j writes) i c.order.unsettled (omega (arith, h, base.sized.unsettled))) ∙ e)
 
   fresh_after : Each net (λ i. flag (flags_from (stale_after net j writes) 0 c.order.stale) i ≡ false → IsFresh net t i (slice_index_or (slice_set c.leaves j new_leaf) i no_leaf) (rates_of c i))
   fresh_after i h e =
@@ -122,7 +123,7 @@ module _ (net : Net) (c : Core) (u t : State) (j burst count : ℕ) (es : List E
   nothing_other i h n e = let k = unsettled_other i h n e in nothing_same net u t i (gather_same i n k.1) (base.first i h n k.0)
 
   dues_after : Each net (λ i. slice_index_or (slice_set c.order.dues j (least_timer b.left.row)) i None ≡ least_timer (slice_index_or (slice_set c.leaves j new_leaf) i no_leaf).row)
-  dues_after = by_leaf (λ i. i < length net.parts → slice_index_or (slice_set c.order.dues j (least_timer b.left.row)) i None ≡ least_timer (slice_index_or (slice_set c.leaves j new_leaf) i no_leaf).row) j
+  dues_after = by_number (λ i. i < length net.parts → slice_index_or (slice_set c.order.dues j (least_timer b.left.row)) i None ≡ least_timer (slice_index_or (slice_set c.leaves j new_leaf) i no_leaf).row) j
       (λ h. get_or-set_same c.order.dues j (least_timer b.left.row) None (omega (arith, h, base.sized.timers)) ∙ ap (λ (x : LeafState). least_timer x.row) (sym leaf_new))
       (λ i n h. get_or-set_other c.order.dues j i (least_timer b.left.row) None n ∙ (base.dues i h ∙ ap (λ (x : LeafState). least_timer x.row) (sym (leaf_same i n))))
 
@@ -133,7 +134,7 @@ module _ (net : Net) (c : Core) (u t : State) (j burst count : ℕ) (es : List E
   late_same i h n x e = subst (λ m. m ≤ x.0) (sym did.time) (base.late i h n x e)
 
   late_after : Each net (λ i. IsLate t.time (slice_index_or (slice_set c.leaves j new_leaf) i no_leaf).row)
-  late_after = by_leaf (λ i. i < length net.parts → IsLate t.time (slice_index_or (slice_set c.leaves j new_leaf) i no_leaf).row) j
+  late_after = by_number (λ i. i < length net.parts → IsLate t.time (slice_index_or (slice_set c.leaves j new_leaf) i no_leaf).row) j
       (λ h. subst (λ (x : LeafState). IsLate t.time x.row) (sym leaf_new) late_new)
       (λ i n h. subst (λ (x : LeafState). IsLate t.time x.row) (sym (leaf_same i n)) (late_same i h n))
 
@@ -156,7 +157,7 @@ module _ (net : Net) (c : Core) (u t : State) (j burst count : ℕ) (es : List E
   }
 
   waits_after : Each net (λ i. Waits net t i (slice_index_or (slice_set c.leaves j new_leaf) i no_leaf))
-  waits_after = by_leaf (λ i. i < length net.parts → Waits net t i (slice_index_or (slice_set c.leaves j new_leaf) i no_leaf)) j
+  waits_after = by_number (λ i. i < length net.parts → Waits net t i (slice_index_or (slice_set c.leaves j new_leaf) i no_leaf)) j
       (λ h. subst (λ (x : LeafState). Waits net t j x) (sym leaf_new) waits_new)
       (λ i n h. subst (λ (x : LeafState). Waits net t i x) (sym (leaf_same i n)) (waits_other i h n))
 
@@ -167,7 +168,7 @@ module _ (net : Net) (c : Core) (u t : State) (j burst count : ℕ) (es : List E
   last_idle e i n is = nothing_same net u t i (gather_same i n (ap (λ (ws : List (ℕ × ℕ)). touches net ws i) (writes_none b.sets (keeps.idle e) (part_of net j) b.left.values 0))) (base.last i n is)
 
   last_from : b.close ≡ Rests → (ks : List Completion) → b.completions ≡ ks → (i : ℕ) → t.last ≡ Some i → nothing_in net t i
-  last_from r [] e i is = by_leaf (λ i. t.last ≡ Some i → nothing_in net t i) j (λ is. did.rests r) (λ i n is. last_idle e i n (sym (did.last ∙ ap (last_after u.last j) e) ∙ is)) i is
+  last_from r [] e i is = by_number (λ i. t.last ≡ Some i → nothing_in net t i) j (λ is. did.rests r) (λ i n is. last_idle e i n (sym (did.last ∙ ap (last_after u.last j) e) ∙ is)) i is
   last_from r (k ∷ ks) e i is =
       let g : t.last ≡ Some j = did.last ∙ ap (last_after u.last j) e in
       let m : Some j ≡ Some i = sym g ∙ is in
@@ -208,7 +209,7 @@ module _ (net : Net) (c : Core) (u t : State) (j burst count : ℕ) (es : List E
     shared = put_shared ∙ ap (scatter (slots_of net j) b.left.values) base.shared ∙ (sym (take_scatter (slots_of net j) b.left.values net.shared u.marking) ∙ ap (take net.shared) (sym did.marking));
     values = values_after;
     fresh = fresh_after;
-    first = by_leaf (λ i. i < length net.parts → flag (flags_from (unsettled_after net j writes) 0 c.order.unsettled) i ≡ false → going_after j (more_of b.close) ≢ Some i → nothing_in net t i) j
+    first = by_number (λ i. i < length net.parts → flag (flags_from (unsettled_after net j writes) 0 c.order.unsettled) i ≡ false → going_after j (more_of b.close) ≢ Some i → nothing_in net t i) j
         (λ h e g. first_at o g) (λ i n h e g. nothing_other i h n e);
     going = going_at o;
     last = last_at o;

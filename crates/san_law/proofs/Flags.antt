@@ -57,13 +57,3 @@ none_from n (false ∷ bs) e (suc i) = none_from (suc n) bs e i
 
 pub none_is : (bs : List Bool) → first_true 0 bs ≡ None → (i : ℕ) → flag bs i ≡ false
 none_is bs e i = none_from 0 bs e i
-
--- all by one and the others
-pub by_leaf : (P : ℕ → Type 0) (j : ℕ) → P j → ((i : ℕ) → i ≢ j → P i) → (i : ℕ) → P i
-by_leaf P j a b i = elim (cases_eq i j) [ inl e ↦ subst P (sym e) a | inr n ↦ b i n ]
-
-pub eq_self : (j : ℕ) → nat_eq j j ≡ true
-eq_self j = eq-eqb j j refl
-
-pub eq_other : (i j : ℕ) → i ≢ j → nat_eq i j ≡ false
-eq_other i j n = ne_eqb i j n

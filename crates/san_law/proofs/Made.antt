@@ -48,7 +48,7 @@ divides v = by_test (nat_eq (slice_index v 0) 0)
 no_impulse : (v : List ℕ) → 0 ≤ 1024
 no_impulse v = omega arith
 
-none_made : IsMade no_activity
+pub none_made : IsMade no_activity
 none_made = made_by no_activity (λ u v. tt) no_impulse
 
 pub set_and_divide_is_made : AllMade set_and_divide

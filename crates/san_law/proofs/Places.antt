@@ -43,7 +43,7 @@ pub scatter_frame : (slots values m : List ℕ) (q : ℕ) → index_of q slots �
 unfolding scatter
 scatter_frame slots values m q out = scatter_from_frame slots values m 0 q q (omega arith) out
 
-or_next_none : (b : Bool) (o : Option ℕ) → or_next b o ≡ None → (b ≡ false) × (o ≡ None)
+pub or_next_none : (b : Bool) (o : Option ℕ) → or_next b o ≡ None → (b ≡ false) × (o ≡ None)
 or_next_none true o h = cc
 or_next_none false None h = (refl, refl)
 or_next_none false (Some n) h = cc

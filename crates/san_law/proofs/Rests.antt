@@ -1,4 +1,5 @@
 -- Next every leaf is settled: the least stale leaf is renewed, or the least timer completes.
+use Rattle.san_base.proofs.NumberTests.{by_number}
 use Rattle.std.proofs.Common.{ℕ, suc, ◌+◌, ◌<◌, ◌≤◌, ◌≡◌, ◌≢◌, ◌∙◌, inl, inr, ap, sym, refl, subst, List, [], length, map, Option, Some, None, true, false, arith, nat_le, slice_index, slice_set, slice_index_or, cond}
 use Rattle.std.proofs.lemmas.Bool.{cases_lt, true≢false, leb-true}
 use Rattle.std.proofs.lemmas.List.{ext_get_or, get_or-map, get_or-set_same, get_or-set_other, length-set, length-map}
@@ -18,7 +19,7 @@ use Rattle.san_law.specs.Core.{Core, burst_after, leaf_of, rates_of, leaf_view_o
 use Rattle.san_law.specs.Lawful.{IsLate, IsLawful}
 use Rattle.san_law.specs.Standing.{Each, Follows, Holds, IsFresh, Serves, Sized, Stands, Upto, Waits, nothing_in, upto, upto_going, upto_stale, upto_unsettled}
 use Rattle.san_law.specs.inner.Least.{Before}
-use Rattle.san_law.proofs.Flags.{by_leaf, first_is, none_is}
+use Rattle.san_law.proofs.Flags.{first_is, none_is}
 use Rattle.san_law.proofs.Timers.{dropped_late}
 use Rattle.san_law.proofs.Least.{before_late, least_is_before}
 use Rattle.san_law.proofs.Tallies.{counts_later, rates_are, admitted_at_time}
@@ -105,17 +106,17 @@ module _ (net : Net) (law : IsLawful net) (opening : State) (past : List Event) 
     stale_same i n = get_or-set_other c.order.stale j i false false n
 
     fresh_after : Each net (λ i. flag (slice_set c.order.stale j false) i ≡ false → IsFresh net s i (slice_index_or (slice_set c.leaves j new_leaf) i no_leaf) (slice_index_or (slice_set c.tally.rates j new_rates) i []))
-    fresh_after = by_leaf (λ i. i < length net.parts → flag (slice_set c.order.stale j false) i ≡ false → IsFresh net s i (slice_index_or (slice_set c.leaves j new_leaf) i no_leaf) (slice_index_or (slice_set c.tally.rates j new_rates) i [])) j
+    fresh_after = by_number (λ i. i < length net.parts → flag (slice_set c.order.stale j false) i ≡ false → IsFresh net s i (slice_index_or (slice_set c.leaves j new_leaf) i no_leaf) (slice_index_or (slice_set c.tally.rates j new_rates) i [])) j
         (λ h q. subst (λ (x : LeafState). IsFresh net s j x (slice_index_or (slice_set c.tally.rates j new_rates) j [])) (sym leaf_new) (subst (λ ws. IsFresh net s j new_leaf ws) (sym (get_or-set_same c.tally.rates j new_rates [] (omega (arith, h, st.holds.sized.rates)))) fresh_new))
         (λ i n h q. subst (λ (x : LeafState). IsFresh net s i x (slice_index_or (slice_set c.tally.rates j new_rates) i [])) (sym (leaf_same i n)) (subst (λ ws. IsFresh net s i (leaf_of c i) ws) (sym (get_or-set_other c.tally.rates j i new_rates [] n)) (st.holds.fresh i h (sym (stale_same i n) ∙ q))))
 
     values_after : Each net (λ i. (slice_index_or (slice_set c.leaves j new_leaf) i no_leaf).values ≡ gather (privates (part_of net i)) s.marking)
-    values_after = by_leaf (λ i. i < length net.parts → (slice_index_or (slice_set c.leaves j new_leaf) i no_leaf).values ≡ gather (privates (part_of net i)) s.marking) j
+    values_after = by_number (λ i. i < length net.parts → (slice_index_or (slice_set c.leaves j new_leaf) i no_leaf).values ≡ gather (privates (part_of net i)) s.marking) j
         (λ h. ap (λ (x : LeafState). x.values) leaf_new ∙ st.holds.values j h)
         (λ i n h. ap (λ (x : LeafState). x.values) (leaf_same i n) ∙ st.holds.values i h)
 
     dues_after : Each net (λ i. slice_index_or (slice_set c.order.dues j (least_timer r)) i None ≡ least_timer (slice_index_or (slice_set c.leaves j new_leaf) i no_leaf).row)
-    dues_after = by_leaf (λ i. i < length net.parts → slice_index_or (slice_set c.order.dues j (least_timer r)) i None ≡ least_timer (slice_index_or (slice_set c.leaves j new_leaf) i no_leaf).row) j
+    dues_after = by_number (λ i. i < length net.parts → slice_index_or (slice_set c.order.dues j (least_timer r)) i None ≡ least_timer (slice_index_or (slice_set c.leaves j new_leaf) i no_leaf).row) j
         (λ h. get_or-set_same c.order.dues j (least_timer r) None (omega (arith, h, st.holds.sized.timers)) ∙ ap (λ (x : LeafState). least_timer x.row) (sym leaf_new))
         (λ i n h. get_or-set_other c.order.dues j i (least_timer r) None n ∙ (st.holds.dues i h ∙ ap (λ (x : LeafState). least_timer x.row) (sym (leaf_same i n))))
 
@@ -140,14 +141,14 @@ module _ (net : Net) (law : IsLawful net) (opening : State) (past : List Event) 
       going = st.holds.going;
       last = st.holds.last;
       dues = dues_after;
-      late = by_leaf (λ i. i < length net.parts → IsLate s.time (slice_index_or (slice_set c.leaves j new_leaf) i no_leaf).row) j
+      late = by_number (λ i. i < length net.parts → IsLate s.time (slice_index_or (slice_set c.leaves j new_leaf) i no_leaf).row) j
           (λ h. subst (λ (x : LeafState). IsLate s.time x.row) (sym leaf_new) (law.renewed_late j s.time (gather (slots_of net j) s.stable) (local_of net s j) r e (subst (IsLate s.time) waits_here.row (st.holds.late j h))))
           (λ i n h. subst (λ (x : LeafState). IsLate s.time x.row) (sym (leaf_same i n)) (st.holds.late i h));
     }
 
     upto_after : Upto net (with_renewal net c c.order.time j new_outcome) s (suc j)
     upto_after = record {
-      renewed = by_leaf (λ i. i < length net.parts → i < suc j → renewed_at net s i (row_of s i) ≡ Fresh (slice_index_or (slice_set c.leaves j new_leaf) i no_leaf).row) j
+      renewed = by_number (λ i. i < length net.parts → i < suc j → renewed_at net s i (row_of s i) ≡ Fresh (slice_index_or (slice_set c.leaves j new_leaf) i no_leaf).row) j
           (λ h l. e ∙ ap (λ (x : LeafState). Fresh x.row) (sym leaf_new))
           (λ i n h l. upto_here.renewed i h (omega arith) ∙ ap (λ (x : LeafState). Fresh x.row) (sym (leaf_same i n)));
       waits = λ i h l. let n : i ≢ j = omega arith in subst (λ (x : LeafState). Waits net s i x) (sym (leaf_same i n)) (upto_here.waits i h (omega arith));
@@ -160,7 +161,7 @@ module _ (net : Net) (law : IsLawful net) (opening : State) (past : List Event) 
         let l = first_is c.order.stale j stale in
         elim (cases_lt j i) [
           | inl h ↦ h
-          | inr h ↦ absurd (by_leaf (λ i. i ≤ j → flag (slice_set c.order.stale j false) i ≡ true → ⊥) j
+          | inr h ↦ absurd (by_number (λ i. i ≤ j → flag (slice_set c.order.stale j false) i ≡ true → ⊥) j
               (λ h t. true≢false (sym t ∙ get_or-set_same c.order.stale j false false (omega (arith, within, st.holds.sized.stale))))
               (λ i n h t. true≢false (sym t ∙ (stale_same i n ∙ l.below i (omega arith)))) i h k.set)
         ]

@@ -2,6 +2,7 @@
 use Rattle.std.specs.Prelude.{ℕ, suc, ◌+◌, ◌*◌, ◌≡◌, ◌≤◌, ◌<◌, ◌⊎◌, nat_lt, Bool, false, List, [], ◌∷◌, length, Option, Result, Ok, Err, if◌then◌else◌, slice_index, slice_index_or, slice_set}
 use Rattle.san_base.specs.declared.ending.Trap.{Trap}
 use Rattle.san_base.specs.declared.ending.Trap.TheVariants as trap
+use Rattle.san_base.specs.declared.limits.TheConstants.{MAX_EVENT_IMPULSES}
 use Rattle.san_law.specs.Net.{Broken, Done, Enabled, Found, Impulse, Local, Nothing, Rated, Row, Slot}
 
 -- what a predicate gives
@@ -114,4 +115,4 @@ completed draw part k l = done_by l.row k (activity_of part k) ((activity_of par
 pub record IsMade (a : Activity) : Type 0 where
   pub keeps : (u : ℕ) (v : List ℕ) (e : Effected) → a.complete u v ≡ Ok e → length e.values ≡ length v
   pub sets : (u : ℕ) (v : List ℕ) (e : Effected) → a.complete u v ≡ Ok e → (p : ℕ) → e.sets p ≡ false → slice_index e.values p ≡ slice_index v p
-  pub few : (v : List ℕ) → length (a.impulses v) ≤ 1024
+  pub few : (v : List ℕ) → length (a.impulses v) ≤ MAX_EVENT_IMPULSES

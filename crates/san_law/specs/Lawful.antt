@@ -1,4 +1,5 @@
 -- What is asked of a network: its places are laid out apart, and its leaves keep to themselves.
+use Rattle.san_base.specs.declared.limits.TheConstants.{MAX_EVENT_IMPULSES}
 use Rattle.std.specs.Prelude.{ℕ, ◌<◌, ◌≤◌, ◌≡◌, ◌≢◌, List, [], ◌∷◌, length, Some, None, Ok, true, false, slice_index}
 use Rattle.san_law.specs.Net.{Done, Fresh, Local, Net, Private, Row, Shared, Slot, is_bare, least_timer}
 use Rattle.san_law.specs.State.{index_of, part_of, slots_of}
@@ -35,7 +36,7 @@ pub record IsLawful (net : Net) : Type 0 where
   pub keeps : (j k : ℕ) (l : Local) (d : Done) → net.done j k l ≡ Ok d → length d.left.values ≡ length l.values
   pub sets : (j k : ℕ) (l : Local) (d : Done) → net.done j k l ≡ Ok d → (p : ℕ) → d.sets p ≡ false → slice_index d.left.values p ≡ slice_index l.values p
   pub timers : (j k : ℕ) (l : Local) (d : Done) → net.done j k l ≡ Ok d → d.left.row.timers ≡ l.row.timers
-  pub few : (j k : ℕ) (l : Local) (d : Done) → net.done j k l ≡ Ok d → length d.impulses ≤ 1024
+  pub few : (j k : ℕ) (l : Local) (d : Done) → net.done j k l ≡ Ok d → length d.impulses ≤ MAX_EVENT_IMPULSES
   -- where no activity has a timer, or none a pair, renewal doesn't look at what was seen
   pub bare : (j t : ℕ) (a b : List ℕ) (l : Local) → is_bare l.row ≡ true → net.renewed j t a l ≡ net.renewed j t b l
   pub unpaired : (j t : ℕ) (a b : List ℕ) (l : Local) → net.paired j ≡ false → net.renewed j t a l ≡ net.renewed j t b l

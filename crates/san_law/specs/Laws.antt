@@ -1,4 +1,5 @@
 -- The laws: that taking the needed piece keeps the standing, and what follows.
+use Rattle.san_base.specs.declared.limits.TheConstants.{MAX_EVENT_IMPULSES}
 use Rattle.std.specs.Prelude.{ℕ, zero, suc, ◌+◌, ◌-◌, ◌*◌, ◌<◌, ◌≤◌, ◌≡◌, List, [], ◌∷◌, ◌++◌, length, map, Some, None, false, slice_get}
 use Rattle.san_law.specs.Net.{Net, Rated, Row}
 use Rattle.san_law.specs.State.{State, gather, opening_state, part_of, slots_of}
@@ -77,7 +78,7 @@ TallyIsWorth net = (opening : State) (past : List Event) (c : Core) → c.stop �
 
 -- a core has counted at most 1,024 impulses for each event
 abbrev pub TallyIsFew : Net → Type 0
-TallyIsFew net = (opening : State) (past : List Event) (c : Core) → Follows net opening past c → c.tally.impulses + 1024 * opening.count ≤ 1024 * c.count
+TallyIsFew net = (opening : State) (past : List Event) (c : Core) → Follows net opening past c → c.tally.impulses + MAX_EVENT_IMPULSES * opening.count ≤ MAX_EVENT_IMPULSES * c.count
 
 -- the pieces of a run are those that are needed after each number of them; after all, the core has ended
 abbrev pub PiecesAreNeeded : Net → Type 0

@@ -1,4 +1,5 @@
 -- How a core's committed part stands for a state of the run.
+use Rattle.san_base.specs.declared.limits.TheConstants.{MAX_EVENT_IMPULSES}
 use Rattle.std.specs.Prelude.{ℕ, ◌<◌, ◌≤◌, ◌*◌, ◌≡◌, ◌⊎◌, ◌≢◌, List, [], ◌∷◌, ◌++◌, length, take, Option, Some, None, true, false, slice_index_or}
 use Rattle.san_law.specs.Net.{Fresh, Net, Nothing, Rated, Row, is_bare, least_timer}
 use Rattle.san_law.specs.State.{State, gather, part_of, row_of, slots_of}
@@ -98,7 +99,7 @@ AllTo time (e ∷ es) = (e.time ≤ time) × AllTo time es
 pub record Counts (net : Net) (opening : State) (es : List Event) (time : ℕ) (tally : Tally) : Type 0 where
   pub long : length tally.sums ≡ length net.spans
   pub sums : (r : ℕ) → r < length net.spans → sum_of tally r ≡ sum_before net r opening es time
-  pub impulses : tally.impulses ≤ 1024 * length es
+  pub impulses : tally.impulses ≤ MAX_EVENT_IMPULSES * length es
   pub early : AllTo time es
   pub timely : time ≤ net.horizon
 

@@ -19,9 +19,9 @@ use Rattle.san_lex.specs.declared.byte.TheConstants.{MAX_NUMBER}
 use Rattle.san_base.specs.Names.{is_letter, is_digit, is_in_name, each}
 use Rattle.san_lex.specs.Bytes.{is_blank, run, first}
 use Rattle.san_lex.specs.Keywords.{keyword_of}
-use Rattle.san_lex.specs.Lexer.{Word, Number, Name, Fixed, Fault, Front, Token, named, numbered, mark_of, operator_of, single, double, sign_front, front, more, Located, with_token, grown, lex, word_of, heard}
+use Rattle.san_lex.specs.Lexer.{Word, Number, Name, Fixed, TokenFault, Front, Token, named, numbered, mark_of, operator_of, single, double, sign_front, front, more, Located, with_token, grown, lex, word_of, heard}
 use Rattle.san_lex.specs.Words.{IsName, IsWord, AreWords}
-use Rattle.san_lex.specs.Layout.{sign_text, text_of, Before, Line, Tight, Loose, before, hugs, depth_after, closes, spaces, gap, ending, layout}
+use Rattle.san_lex.specs.Layout.{sign_text, text_of, Spacing, Line, Tight, Loose, before, hugs, depth_after, closes, spaces, gap, ending, layout}
 
 -- ---- steps of the lexer
 
@@ -36,7 +36,7 @@ lex_token : (b : ℕ) (bs vs : List ℕ) (w : Word) (at then : ℕ) → at + suc
 unfolding lex
 lex_token b bs vs w at then e f =
     ap (λ (g : Front). grown g at (lex (more g) (suc at) (bs ++ vs))) f
-    ∙ ap (λ (r : Result (List Located) Fault). grown (Token w (length bs)) at r) (lex_skip bs vs (suc at) then (omega arith))
+    ∙ ap (λ (r : Result (List Located) TokenFault). grown (Token w (length bs)) at r) (lex_skip bs vs (suc at) then (omega arith))
 
 lex_space : (vs : List ℕ) (at : ℕ) → lex 0 at (32 ∷ vs) ≡ lex 0 (suc at) vs
 unfolding lex front
@@ -50,7 +50,7 @@ lex_spaces : (n : ℕ) (vs : List ℕ) (at then : ℕ) → at + n ≡ then → l
 lex_spaces zero vs at then e = let same : at ≡ then = omega arith in ap (λ (k : ℕ). lex 0 k vs) same
 lex_spaces (suc n) vs at then e = lex_space (spaces n ++ vs) at ∙ lex_spaces n vs (suc at) then (omega arith)
 
-heard_token : (p : Located) (r : Result (List Located) Fault) (ws : List Word) → heard r ≡ Ok ws → heard (with_token p r) ≡ Ok (p.word ∷ ws)
+heard_token : (p : Located) (r : Result (List Located) TokenFault) (ws : List Word) → heard r ≡ Ok ws → heard (with_token p r) ≡ Ok (p.word ∷ ws)
 heard_token p (Ok ps) ws e = let same : map word_of ps ≡ ws = cc in ap (λ (us : List Word). Ok (p.word ∷ us)) same
 heard_token p (Err f) ws e = absurd cc
 
@@ -319,7 +319,7 @@ lex_word w vs ws at f rest =
     ∙ ap heard (lex_token f.head f.others vs w at then refl f.front_is)
     ∙ heard_token (record { word = w; start = at; end = then }) (lex 0 then vs) ws (rest then)
 
-lex_ending : (b : Before) (vs : List ℕ) (ws : List Word) → ((at : ℕ) → heard (lex 0 at vs) ≡ Ok ws) → (at : ℕ) → heard (lex 0 at (ending b ++ vs)) ≡ Ok ws
+lex_ending : (b : Spacing) (vs : List ℕ) (ws : List Word) → ((at : ℕ) → heard (lex 0 at vs) ≡ Ok ws) → (at : ℕ) → heard (lex 0 at (ending b ++ vs)) ≡ Ok ws
 lex_ending Line vs ws h at = ap heard (lex_line vs at) ∙ h (suc at)
 lex_ending Tight vs ws h at = h at
 lex_ending Loose vs ws h at = h at
@@ -328,12 +328,12 @@ space_or_none : (c : Bool) (vs : List ℕ) (ws : List Word) → ((at : ℕ) → 
 space_or_none true vs ws h at = h at
 space_or_none false vs ws h at = ap heard (lex_space vs at) ∙ h (suc at)
 
-lex_gap : (b : Before) (d : ℕ) (w : Word) (vs : List ℕ) (ws : List Word) → ((at : ℕ) → heard (lex 0 at vs) ≡ Ok ws) → (at : ℕ) → heard (lex 0 at (gap b d w ++ vs)) ≡ Ok ws
+lex_gap : (b : Spacing) (d : ℕ) (w : Word) (vs : List ℕ) (ws : List Word) → ((at : ℕ) → heard (lex 0 at vs) ≡ Ok ws) → (at : ℕ) → heard (lex 0 at (gap b d w ++ vs)) ≡ Ok ws
 lex_gap Line d w vs ws h at = ap heard (lex_spaces (2 * (d - closes w)) vs at (at + 2 * (d - closes w)) refl) ∙ h (at + 2 * (d - closes w))
 lex_gap Tight d w vs ws h at = h at
 lex_gap Loose d w vs ws h at = space_or_none (hugs w) vs ws h at
 
-pub layout_law : (b : Before) (d : ℕ) (ws : List Word) → AreWords ws → (at : ℕ) → heard (lex 0 at (layout b d ws)) ≡ Ok ws
+pub layout_law : (b : Spacing) (d : ℕ) (ws : List Word) → AreWords ws → (at : ℕ) → heard (lex 0 at (layout b d ws)) ≡ Ok ws
 unfolding layout lex
 layout_law b d [] h at = refl
 layout_law b d (w ∷ ws) h at =

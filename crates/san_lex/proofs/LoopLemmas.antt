@@ -1,4 +1,5 @@
 -- One turn of the loop that makes the tokens.
+use Rattle.san_base.proofs.Lists.{map_last}
 use Rattle.std.proofs.Common.{◌≡◌, ℕ, zero, suc, ◌+◌, ◌-◌, ◌<◌, ◌≤◌, Bool, true, false, cond, List, [], ◌∷◌, ◌++◌, length, map, take, drop, get_or, Result, Ok, Err, Option, Some, None, refl, sym, ap, subst, ◌∙◌, append_assoc, arith, drop-cons}
 use Rattle.std.specs.Prelude.{nat_eq, nat_le}
 use Rattle.std.specs.Str.Parse.{digits_value}
@@ -14,13 +15,13 @@ use Rattle.san_lex.specs.declared.byte.TheConstants.{MAX_NUMBER}
 use Rattle.san_base.specs.Names.{is_letter, is_digit, is_in_name}
 use Rattle.san_lex.specs.Bytes.{is_blank, is_in_line, run, first}
 use Rattle.san_lex.specs.Keywords.{keyword_of}
-use Rattle.san_lex.specs.Lexer.{Word, Number, Name, Fault, Large, Long, Front, Gap, Token, Broken, name_word, named, numbered, single, double, sign_front, front, more, Located, with_token, grown, lex}
+use Rattle.san_lex.specs.Lexer.{Word, Number, Name, TokenFault, Large, Long, Front, Gap, Token, Broken, name_word, named, numbered, single, double, sign_front, front, more, Located, with_token, grown, lex}
 use Rattle.san_lex.specs.Pieces.{kind_word, located}
 use Rattle.san_lex.specs.inner.Fronts.{piece_front, IsFront}
 use Rattle.san_lex.proofs.PieceLemmas.{take_whole}
 
 -- what was found before, and what is still found
-abbrev pub gathered : List Located → Result (List Located) Fault → Result (List Located) Fault
+abbrev pub gathered : List Located → Result (List Located) TokenFault → Result (List Located) TokenFault
 gathered found (Ok ps) = Ok (found ++ ps)
 gathered found (Err f) = Err f
 
@@ -118,11 +119,11 @@ piece_within text at p lt h =
     let e = ap more (piece_is text at p lt h) in
     omega (arith, e, front_within (get_or text at 0) (drop (suc at) text), length-drop (suc at) text)
 
-pub turn_gap : (text : List ℕ) (at n : ℕ) (found : List Located) (total : Result (List Located) Fault) → at < length text → IsFront (take (length text - at) (drop at text)) (piece.Gap n)
+pub turn_gap : (text : List ℕ) (at n : ℕ) (found : List Located) (total : Result (List Located) TokenFault) → at < length text → IsFront (take (length text - at) (drop at text)) (piece.Gap n)
     → gathered found (lex 0 at (drop at text)) ≡ total → gathered found (lex 0 (at + suc n) (drop (at + suc n) text)) ≡ total
 turn_gap text at n found total lt h so_far = sym (ap (gathered found) (lex_at text at (Gap n) lt (piece_is text at (piece.Gap n) lt h))) ∙ so_far
 
-one_more : (found : List Located) (p : Located) (r : Result (List Located) Fault) → gathered found (with_token p r) ≡ gathered (found ++ p ∷ []) r
+one_more : (found : List Located) (p : Located) (r : Result (List Located) TokenFault) → gathered found (with_token p r) ≡ gathered (found ++ p ∷ []) r
 one_more found p (Ok ps) = ap (λ (qs : List Located). Ok qs) (sym (append_assoc found (p ∷ []) ps))
 one_more found p (Err f) = refl
 
@@ -132,27 +133,23 @@ same_word text kind.Name at n =
     let e : suc n - 0 ≡ at + suc n - at = omega arith in ap (λ (m : ℕ). Name (take m (drop at text))) e
 same_word text (kind.Fixed s) at n = refl
 
-pub turn_token : (text : List ℕ) (at n : ℕ) (k : Kind) (found : List Located) (total : Result (List Located) Fault) → at < length text → IsFront (take (length text - at) (drop at text)) (piece.Token k n)
+pub turn_token : (text : List ℕ) (at n : ℕ) (k : Kind) (found : List Located) (total : Result (List Located) TokenFault) → at < length text → IsFront (take (length text - at) (drop at text)) (piece.Token k n)
     → gathered found (lex 0 at (drop at text)) ≡ total → gathered (found ++ record { word = kind_word text k at (at + suc n); start = at; end = at + suc n } ∷ []) (lex 0 (at + suc n) (drop (at + suc n) text)) ≡ total
 turn_token text at n k found total lt h so_far =
     let rest = lex 0 (at + suc n) (drop (at + suc n) text) in
     let e = lex_at text at (Token (kind_word text k at (at + suc n)) n) lt (ap (λ (w : Word). Token w n) (sym (same_word text k at n)) ∙ piece_is text at (piece.Token k n) lt h) in
     sym (one_more found (record { word = kind_word text k at (at + suc n); start = at; end = at + suc n }) rest) ∙ sym (ap (gathered found) e) ∙ so_far
 
-pub turn_broken : (text : List ℕ) (at : ℕ) (p : Piece) (f : ℕ → Fault) (found : List Located) (total : Result (List Located) Fault) → at < length text → piece_front (drop at text) p ≡ Broken f → IsFront (take (length text - at) (drop at text)) p
+pub turn_broken : (text : List ℕ) (at : ℕ) (p : Piece) (f : ℕ → TokenFault) (found : List Located) (total : Result (List Located) TokenFault) → at < length text → piece_front (drop at text) p ≡ Broken f → IsFront (take (length text - at) (drop at text)) p
     → gathered found (lex 0 at (drop at text)) ≡ total → total ≡ Err (f at)
 turn_broken text at p f found total lt b h so_far = sym so_far ∙ ap (gathered found) (lex_at text at (Broken f) lt (sym b ∙ piece_is text at p lt h))
 
-pub turns_end : (text : List ℕ) (at : ℕ) (found : List Located) (total : Result (List Located) Fault) → length text ≤ at → gathered found (lex 0 at (drop at text)) ≡ total → total ≡ Ok found
+pub turns_end : (text : List ℕ) (at : ℕ) (found : List Located) (total : Result (List Located) TokenFault) → length text ≤ at → gathered found (lex 0 at (drop at text)) ≡ total → total ≡ Ok found
 unfolding lex
 turns_end text at found total le so_far = sym so_far ∙ ap (λ (bs : List ℕ). gathered found (lex 0 at bs)) (drop_end text at le) ∙ ap (λ (ps : List Located). Ok ps) (append-nil found)
 
-map_last : {A B : Type 0} (f : A → B) (xs : List A) (x : A) → map f (xs ++ x ∷ []) ≡ map f xs ++ f x ∷ []
-map_last f [] x = refl
-map_last f (y ∷ ys) x = ap (λ (zs : List _). f y ∷ zs) (map_last f ys x)
-
 -- the token that the code makes
-pub token_found : (text : List ℕ) (at n : ℕ) (k : Kind) (t : tok.Token) (xs ys : List tok.Token) (total : Result (List Located) Fault) → at < length text → IsFront (take (length text - at) (drop at text)) (piece.Token k n)
+pub token_found : (text : List ℕ) (at n : ℕ) (k : Kind) (t : tok.Token) (xs ys : List tok.Token) (total : Result (List Located) TokenFault) → at < length text → IsFront (take (length text - at) (drop at text)) (piece.Token k n)
     → t.kind ≡ k → t.start ≡ at → t.end ≡ at + suc n → ys ≡ xs ++ t ∷ []
     → gathered (map (located text) xs) (lex 0 at (drop at text)) ≡ total → (then : ℕ) → then ≡ at + suc n → gathered (map (located text) ys) (lex 0 then (drop then text)) ≡ total
 token_found text at n k t xs ys total lt h ek es ee ey so_far then et =
@@ -164,6 +161,6 @@ token_found text at n k t xs ys total lt h ek es ee ey so_far then et =
     ∙ ap (λ (ps : List Located). gathered ps (lex 0 (at + suc n) (drop (at + suc n) text))) (ap (map (located text)) ey ∙ map_last (located text) xs t ∙ ap (λ (p : Located). map (located text) xs ++ p ∷ []) same)
     ∙ turn_token text at n k (map (located text) xs) total lt h so_far
 
-pub gap_found : (text : List ℕ) (at n : ℕ) (found : List Located) (total : Result (List Located) Fault) → at < length text → IsFront (take (length text - at) (drop at text)) (piece.Gap n)
+pub gap_found : (text : List ℕ) (at n : ℕ) (found : List Located) (total : Result (List Located) TokenFault) → at < length text → IsFront (take (length text - at) (drop at text)) (piece.Gap n)
     → gathered found (lex 0 at (drop at text)) ≡ total → (then : ℕ) → then ≡ at + suc n → gathered found (lex 0 then (drop then text)) ≡ total
 gap_found text at n found total lt h so_far then et = ap (λ (m : ℕ). gathered found (lex 0 m (drop m text))) et ∙ turn_gap text at n found total lt h so_far

@@ -10,7 +10,7 @@ use Rattle.san_lex.specs.declared.byte.TheConstants.{MAX_NUMBER}
 use Rattle.san_base.specs.Names.{is_letter, is_digit, is_in_name, each}
 use Rattle.san_lex.specs.Bytes.{is_blank, run, first}
 use Rattle.san_lex.specs.Keywords.{keyword_of}
-use Rattle.san_lex.specs.Lexer.{Number, Fault, Large, Long, Front, Gap, Token, Broken, name_word, named, numbered, single, double, sign_front, front, more, Located, with_token, grown, lex, word_of}
+use Rattle.san_lex.specs.Lexer.{Number, TokenFault, Large, Long, Front, Gap, Token, Broken, name_word, named, numbered, single, double, sign_front, front, more, Located, with_token, grown, lex, word_of}
 use Rattle.san_lex.specs.Words.{IsWord, AreWords}
 
 abbrev FrontFits : Front → Type 0
@@ -60,11 +60,11 @@ front_fits b bs =
     either (is_letter b) _ _ (λ h. named_fits b (run is_in_name bs) h (each_run is_in_name bs)) (λ h.
     either (is_digit b) _ _ (λ h. numbered_fits b (run is_digit bs)) (λ h. sign_fits (double b (first bs)) (single b)))))
 
-token_words : (p : Located) (r : Result (List Located) Fault) (ps : List Located) → with_token p r ≡ Ok ps → (qs : List Located) × (r ≡ Ok qs) × (p ∷ qs ≡ ps)
+token_words : (p : Located) (r : Result (List Located) TokenFault) (ps : List Located) → with_token p r ≡ Ok ps → (qs : List Located) × (r ≡ Ok qs) × (p ∷ qs ≡ ps)
 token_words p (Ok qs) ps e = (qs, refl, cc)
 token_words p (Err f) ps e = absurd cc
 
-grown_words : (f : Front) (at : ℕ) (r : Result (List Located) Fault) (ps : List Located) → FrontFits f → ((qs : List Located) → r ≡ Ok qs → AreWords (map word_of qs)) → grown f at r ≡ Ok ps → AreWords (map word_of ps)
+grown_words : (f : Front) (at : ℕ) (r : Result (List Located) TokenFault) (ps : List Located) → FrontFits f → ((qs : List Located) → r ≡ Ok qs → AreWords (map word_of qs)) → grown f at r ≡ Ok ps → AreWords (map word_of ps)
 grown_words (Gap n) at r ps h rest e = rest ps e
 grown_words (Token w n) at r ps h rest e =
     let t = token_words (record { word = w; start = at; end = at + suc n }) r ps e in

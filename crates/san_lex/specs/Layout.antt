@@ -50,12 +50,12 @@ text_of (Name bs) = bs
 text_of (Fixed s) = sign_text s
 
 -- what stands before the next word: the start of a line, nothing, or a word that wants a space
-pub data Before : Type 0 where
-  Line : Before
-  Tight : Before
-  Loose : Before
+pub data Spacing : Type 0 where
+  Line : Spacing
+  Tight : Spacing
+  Loose : Spacing
 
-abbrev pub mark_before : Mark → Before
+abbrev pub mark_before : Mark → Spacing
 mark_before mark.Semicolon = Line
 mark_before mark.OpenBrace = Line
 mark_before mark.CloseBrace = Line
@@ -65,11 +65,11 @@ mark_before mark.OpenParen = Tight
 mark_before mark.OpenBracket = Tight
 mark_before m = Loose
 
-abbrev pub sign_before : Sign → Before
+abbrev pub sign_before : Sign → Spacing
 sign_before (sign.Mark m) = mark_before m
 sign_before s = Loose
 
-unfoldable pub before : Word → Before
+unfoldable pub before : Word → Spacing
 before (Number n) = Loose
 before (Name bs) = Loose
 before (Fixed s) = sign_before s
@@ -126,17 +126,17 @@ abbrev pub spaces : ℕ → List ℕ
 spaces zero = []
 spaces (suc n) = 32 ∷ spaces n
 
-abbrev pub gap : Before → ℕ → Word → List ℕ
+abbrev pub gap : Spacing → ℕ → Word → List ℕ
 gap Line d w = spaces (2 * (d - closes w))
 gap Tight d w = []
 gap Loose d w = cond (hugs w) [] (32 ∷ [])
 
-abbrev pub ending : Before → List ℕ
+abbrev pub ending : Spacing → List ℕ
 ending Line = 10 ∷ []
 ending Tight = []
 ending Loose = []
 
-unfoldable pub layout : Before → ℕ → List Word → List ℕ
+unfoldable pub layout : Spacing → ℕ → List Word → List ℕ
 layout b d [] = []
 layout b d (w ∷ ws) = gap b d w ++ (text_of w ++ (ending (before w) ++ layout (before w) (depth_after w d) ws))
 

@@ -20,16 +20,16 @@ pub data Word : Type 0 where
   Fixed : (s : Sign) → Word
 
 -- the first fault of a text, and the offset of its first byte
-pub data Fault : Type 0 where
-  Bad : (at : ℕ) → Fault
-  Large : (at : ℕ) → Fault
-  Long : (at : ℕ) → Fault
+pub data TokenFault : Type 0 where
+  Bad : (at : ℕ) → TokenFault
+  Large : (at : ℕ) → TokenFault
+  Long : (at : ℕ) → TokenFault
 
 -- what stands at the front of a text, with how many bytes it has behind its first
 pub data Front : Type 0 where
   Gap : (more : ℕ) → Front
   Token : (w : Word) (more : ℕ) → Front
-  Broken : (fault : ℕ → Fault) → Front
+  Broken : (fault : ℕ → TokenFault) → Front
 
 abbrev pub name_word : Option Keyword → List ℕ → Word
 name_word None bs = Name bs
@@ -94,28 +94,28 @@ pub record Located : Type 0 where
   pub start : ℕ
   pub end : ℕ
 
-abbrev pub with_token : Located → Result (List Located) Fault → Result (List Located) Fault
+abbrev pub with_token : Located → Result (List Located) TokenFault → Result (List Located) TokenFault
 with_token p (Ok ps) = Ok (p ∷ ps)
 with_token p (Err f) = Err f
 
-abbrev pub grown : Front → ℕ → Result (List Located) Fault → Result (List Located) Fault
+abbrev pub grown : Front → ℕ → Result (List Located) TokenFault → Result (List Located) TokenFault
 grown (Gap n) at rest = rest
 grown (Token w n) at rest = with_token (record { word = w; start = at; end = at + suc n }) rest
 grown (Broken f) at rest = Err (f at)
 
 -- the tokens of the bytes from an offset on, after so many that belong to what was before
-unfoldable pub lex : ℕ → ℕ → List ℕ → Result (List Located) Fault
+unfoldable pub lex : ℕ → ℕ → List ℕ → Result (List Located) TokenFault
 lex skip at [] = Ok []
 lex (suc k) at (b ∷ bs) = lex k (suc at) bs
 lex zero at (b ∷ bs) = grown (front b bs) at (lex (more (front b bs)) (suc at) bs)
 
-unfoldable pub tokens : List ℕ → Result (List Located) Fault
+unfoldable pub tokens : List ℕ → Result (List Located) TokenFault
 tokens text = lex 0 0 text
 
 abbrev pub word_of : Located → Word
 word_of p = p.word
 
 -- the words alone
-abbrev pub heard : Result (List Located) Fault → Result (List Word) Fault
+abbrev pub heard : Result (List Located) TokenFault → Result (List Word) TokenFault
 heard (Ok ps) = Ok (map word_of ps)
 heard (Err f) = Err f

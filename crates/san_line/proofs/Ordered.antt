@@ -40,7 +40,7 @@ after_inserted : (u v : Version) (xs : List Version) → before u v ≡ true →
 after_inserted u v [] h a = (h, tt)
 after_inserted u v (x ∷ xs) h a = by_bool (λ b. AllAfter u (inserted_by b v x xs (inserted v xs))) (before v x) (λ _. (h, a)) (λ _. (a.0, after_inserted u v xs h a.1))
 
-key_is : (l p : ℕ) (x : Version) → is_key l p x ≡ true → (x.leaf.0 ≡ l) × (x.pos ≡ p)
+pub key_is : (l p : ℕ) (x : Version) → is_key l p x ≡ true → (x.leaf.0 ≡ l) × (x.pos ≡ p)
 key_is l p x h = both x.leaf.0 x.pos h
   where
     both : (a b : ℕ) → (nat_eq a l && nat_eq b p) ≡ true → (a ≡ l) × (b ≡ p)

@@ -1,4 +1,5 @@
 -- What a log has noted, and one place more.
+use Rattle.san_base.proofs.NumberTests.{number_turned}
 use Rattle.std.proofs.Common.{ℕ, zero, suc, ◌+◌, ◌<◌, ◌≤◌, ◌≡◌, ◌↔◌, sym, refl, ap, subst, arith, Bool, true, false, nat_eq, IfSome, List, [], ◌∷◌, ◌++◌, length, drop, Option, Some, None, All}
 use Rattle.std.specs.Prelude.{slice_get, slice_index_or}
 use Rattle.std.proofs.lemmas.Bool.{eq-eqb, eqb-true}
@@ -8,7 +9,7 @@ use Rattle.san_log.specs.Logs.{AgreesWith, Entry, find, found_by}
 use Rattle.san_log.specs.Once.{AreNoted, AreOnce}
 
 -- a place that isn't the last one's has no more than before
-still_none : (p : ℕ) (es : List Entry) (e : Entry) → find p es ≡ None → nat_eq e.0.0 p ≡ false → find p (es ++ e ∷ []) ≡ None
+pub still_none : (p : ℕ) (es : List Entry) (e : Entry) → find p es ≡ None → nat_eq e.0.0 p ≡ false → find p (es ++ e ∷ []) ≡ None
 still_none p [] e none other = ap (λ (b : Bool). found_by b e.1 None) other
 still_none p (x ∷ xs) e none other = by_test (nat_eq x.0.0 p) none (still_none p xs e)
   where
@@ -16,16 +17,9 @@ still_none p (x ∷ xs) e none other = by_test (nat_eq x.0.0 p) none (still_none
     by_test true h go = cc
     by_test false h go = go h other
 
-other_way : (a b : ℕ) → nat_eq a b ≡ false → nat_eq b a ≡ false
-other_way a b h = by_test (nat_eq b a) refl
-  where
-    by_test : (t : Bool) → nat_eq b a ≡ t → nat_eq b a ≡ false
-    by_test true is = let same : b ≡ a = eqb-true b a is in let yes : nat_eq a b ≡ true = eq-eqb a b (sym same) in cc
-    by_test false is = is
-
 head_once : (x : Entry) (xs : List Entry) (e : Entry) (b : Bool) → nat_eq x.0.0 e.0.0 ≡ b → find x.0.0 xs ≡ None → found_by b x.1 (find e.0.0 xs) ≡ None → (find x.0.0 (xs ++ e ∷ []) ≡ None) × (find e.0.0 xs ≡ None)
 head_once x xs e true is once h = cc
-head_once x xs e false is once h = (still_none x.0.0 xs e once (other_way x.0.0 e.0.0 is), h)
+head_once x xs e false is once h = (still_none x.0.0 xs e once (number_turned x.0.0 e.0.0 is), h)
 
 once_more : (es : List Entry) (e : Entry) → AreOnce es → find e.0.0 es ≡ None → AreOnce (es ++ e ∷ [])
 once_more [] e once none = (refl, tt)

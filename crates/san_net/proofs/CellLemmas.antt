@@ -4,12 +4,13 @@ use Rattle.std.specs.Prelude.{slice_get}
 use Rattle.std.proofs.lemmas.Bool.{cases_eq, cases_lt, eq-eqb, ne_eqb}
 use Rattle.std.proofs.lemmas.List.{ext_get_or, get_or-map, get_or_past, get_or-set_same, get_or-set_other, length-map, length-set}
 use Rattle.san_base.proofs.Lists.{drop_whole}
-use Rattle.san_expr.specs.View.{Answers, Reads, plain}
+use Rattle.san_expr.specs.View.{Answers, ReadsCell, plain}
 use Rattle.san_law.proofs.Places.{index_of_is, index_of_slot, scatter_at, scatter_length, scatter_same, scatter_twice, below_at}
 use Rattle.san_law.specs.Clocks.{same_list}
 use Rattle.san_law.specs.Lawful.{AllBelow, AreDistinct}
 use Rattle.san_law.specs.State.{gather, index_of, or_next, scatter, taken_from}
-use Rattle.san_net.specs.Cells.{IsOver}
+use Rattle.san_net.proofs.TableLemmas.{got_at}
+use Rattle.san_net.specs.Cells.{LiesOver}
 use Rattle.san_net.specs.Laid.{place_of}
 use Rattle.san_net.specs.declared.part.Slot.{Slot}
 use Rattle.san_net.specs.declared.part.Slot.TheVariants.{Private}
@@ -91,7 +92,7 @@ module _ (slots : List Slot) (k at : ℕ) (h : k < length slots) (found : at ≡
       by_case (inr n) = get_or-set_other values k i (slice_index m at) 0 n ∙ front i (omega (arith, b, n))
 
   -- one value more is put back
-  pub one_put : (m before : List ℕ) (v : ℕ) (values : List ℕ) → IsOver (map place_of slots) before → length m ≡ length before → v ≡ slice_index values k
+  pub one_put : (m before : List ℕ) (v : ℕ) (values : List ℕ) → LiesOver (map place_of slots) before → length m ≡ length before → v ≡ slice_index values k
       → ((i : ℕ) → i < k → slice_index m (slice_index (map place_of slots) i) ≡ slice_index values i)
       → (i : ℕ) → i < k + 1 → slice_index (slice_set m at v) (slice_index (map place_of slots) i) ≡ slice_index values i
   one_put m before v values over sized is front i b = by_case (cases_eq i k)
@@ -105,7 +106,7 @@ module _ (slots : List Slot) (k at : ℕ) (h : k < length slots) (found : at ≡
           (λ e. distinct_at (map place_of slots) i k over.apart (omega (arith, b, inside)) inside n (e ∙ at_slot))
           ∙ front i (omega (arith, b, n))
 
-  pub rest_stays : (m before : List ℕ) (v : ℕ) → IsOver (map place_of slots) before → outside (map place_of slots) m ≡ outside (map place_of slots) before
+  pub rest_stays : (m before : List ℕ) (v : ℕ) → LiesOver (map place_of slots) before → outside (map place_of slots) m ≡ outside (map place_of slots) before
       → outside (map place_of slots) (slice_set m at v) ≡ outside (map place_of slots) before
   rest_stays m before v over rest =
       ap (λ (q : ℕ). outside (map place_of slots) (slice_set m q v)) at_slot ∙ outside_set (map place_of slots) m k v over.apart inside ∙ rest
@@ -165,7 +166,7 @@ module _ (slots : List Slot) (m values : List ℕ) (is : gather (map place_of sl
   pub within : at < length m
   within = subst (λ n. n < length m) (sym at_is) (below_at (map place_of slots) (length m) k below inside_all)
 
-  pub read_there : Reads (plain values) (plain values) k (slice_index m at)
+  pub read_there : ReadsCell (plain values) (plain values) k (slice_index m at)
   read_there = subst (λ o. Answers o None (plain values) (plain values) k (slice_index m at)) (sym (ap (λ v. slice_get v k) (sym is) ∙ gathered (map place_of slots) m k inside_all)) (ap (slice_index m) at_is, refl)
 
 -- a marking with the values of another in some places
@@ -214,11 +215,6 @@ module _ (places m old : List ℕ) (same : length old ≡ length m) (below : All
         let h : q < length old = omega (arith, below_at places (length m) i below at.0, at.1, same) in
         scatter_at places (gather places m) old q h ∙ found_at q i (index_of q places) refl at.0 at.1;
   }
-
-got_at : (xs : List ℕ) (k : ℕ) → k < length xs → slice_get xs k ≡ Some (slice_index xs k)
-got_at [] k h = absurd (omega (arith, h))
-got_at (x ∷ xs) zero h = refl
-got_at (x ∷ xs) (suc k) h = got_at xs k (omega (arith, h))
 
 -- a slot's place among all
 pub slot_at : (slots : List Slot) (k at : ℕ) (h : k < length slots) (is : at ≡ place_of (slice_index_or slots k (Private (record { 0 = 0 })))) → slice_get (map place_of slots) k ≡ Some at

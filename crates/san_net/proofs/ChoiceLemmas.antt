@@ -8,7 +8,7 @@ use Rattle.san_base.specs.declared.ending.Trap.{Trap}
 use Rattle.san_base.specs.declared.ending.Trap.TheVariants.{Weight}
 use Rattle.san_expr.specs.View.{ViewState}
 use Rattle.san_expr.specs.Concerns.{AssignsNothing}
-use Rattle.san_expr.specs.Meaning.{Outcome, Meaning, settled, go_on, joined, then_do}
+use Rattle.san_expr.specs.Meaning.{Evaluation, Meaning, settled, go_on, joined, then_do}
 use Rattle.san_expr.specs.Meets.{Evaluates}
 use Rattle.san_expr.specs.Value.{value_of}
 use Rattle.san_expr.proofs.ComposeLemmas.{evaluates_stop, evaluates_then}
@@ -78,7 +78,7 @@ more_known true s l w h e = refl
 more_known false true l w h e = e
 more_known false false l w h e = h e
 
-joined_adds : {T U : Type 0} (A : Outcome T) (known : ℕ → Bool) (o : Outcome U) (r : Result U Trap) (m : List ℕ) → A.left ≡ m → ((p : ℕ) → A.sets p ≡ false)
+joined_adds : {T U : Type 0} (A : Evaluation T) (known : ℕ → Bool) (o : Evaluation U) (r : Result U Trap) (m : List ℕ) → A.left ≡ m → ((p : ℕ) → A.sets p ≡ false)
     → AddsNothing known o r A.left → AddsNothing (λ p. A.looks p || (not (A.sets p) && known p)) (joined A o) r m
 joined_adds A known o r m l s n = record {
   answer = n.answer;
@@ -90,7 +90,7 @@ joined_adds A known o r m l s n = record {
 settled_adds : {T : Type 0} (known : ℕ → Bool) (r : Result T Trap) (m : List ℕ) → AddsNothing known (settled r m) r m
 settled_adds known r m = record { answer = refl; left = refl; looks = λ p e. cc; sets = λ p. refl }
 
-widened : {T : Type 0} (known : ℕ → Bool) (extra : ℕ → Bool) (o : Outcome T) (r : Result T Trap) (m : List ℕ) → AddsNothing known o r m → AddsNothing (λ p. known p || extra p) o r m
+widened : {T : Type 0} (known : ℕ → Bool) (extra : ℕ → Bool) (o : Evaluation T) (r : Result T Trap) (m : List ℕ) → AddsNothing known o r m → AddsNothing (λ p. known p || extra p) o r m
 widened known extra o r m n = record {
   answer = n.answer;
   left = n.left;
@@ -103,7 +103,7 @@ FindsAll cases = (before left at : ℕ) (ys : List (Option ℕ)) (ns : List ℕ)
     → AddsNothing (weights_of cases m).looks (found_from left at cases m) (Ok (at + first_above before ns (before + left))) m
 
 module _ (cases : List Case) (ih : FindsAll cases) (before left at : ℕ) (m : List ℕ) where
-  abbrev found : Option ℕ → Outcome ℕ
+  abbrev found : Option ℕ → Evaluation ℕ
   found o = stop_or at (λ l. found_from l (suc at) cases) o m
 
   by_left : (k : ℕ) (ys : List (Option ℕ)) (ns : List ℕ) → (weights_of cases m).answer ≡ Ok ys → all_natural ys ≡ Some ns
@@ -139,7 +139,7 @@ module _ (cases : List Case) (ih : FindsAll cases) (before left at : ℕ) (m : L
   by_weight (Some k) ys ns e n = by_natural k ys ns e (all_natural ys) refl n
 
 module _ (c : Case) (cases : List Case) (ih : FindsAll cases) (before left at : ℕ) (ys : List (Option ℕ)) (ns : List ℕ) (m : List ℕ) (n : all_natural ys ≡ Some ns) where
-  abbrev first : Outcome (Option ℕ)
+  abbrev first : Evaluation (Option ℕ)
   first = weight_of c m
 
   abbrev put_first : Option ℕ → Meaning (List (Option ℕ))

@@ -2,7 +2,7 @@
 use Rattle.san_base.proofs.Bools.{and_both}
 use Rattle.std.proofs.Common.{ℕ, ℤ, zero, suc, pos, ◌<◌, ◌≡◌, ◌∙◌, sym, refl, subst, Bool, true, false, ◌&&◌, IsTrue, Result, Ok, Err, List, [], ◌∷◌}
 use Rattle.san_base.specs.declared.ending.Trap.{Trap}
-use Rattle.san_expr.specs.View.{ViewState, Reads, assigned}
+use Rattle.san_expr.specs.View.{ViewState, ReadsCell, assigned}
 use Rattle.san_expr.specs.Effect.{assign_at, count_of}
 use Rattle.san_expr.specs.Meaning.{Meaning, put_at, settled, then_do, value_at}
 use Rattle.san_expr.specs.Meets.{Evaluates, Meets}
@@ -14,13 +14,13 @@ use Rattle.san_net.specs.declared.activity.Input.{Input}
 use Rattle.san_net.specs.declared.activity.Case.{Case}
 
 -- a read, and the assignment of what is made of it
-pub meets_arc : (s0 s1 s2 : ViewState) (p v y : ℕ) (f : ℤ → ℤ) (made : Result ℕ Trap) → p < s0.places → Reads s0 s1 p v → made ≡ count_of (f (pos v)) → made ≡ Ok y
+pub meets_arc : (s0 s1 s2 : ViewState) (p v y : ℕ) (f : ℤ → ℤ) (made : Result ℕ Trap) → p < s0.places → ReadsCell s0 s1 p v → made ≡ count_of (f (pos v)) → made ≡ Ok y
     → s2 ≡ assigned s1 p y → Meets s0 s2 (then_do (value_at p) (λ x. assign_at p (f x))) (Ok tt)
 meets_arc s0 s1 s2 p v y f made within read is answer put =
     meets_then s0 s1 s2 (value_at p) (λ x. assign_at p (f x)) (pos v) (Ok tt) (evaluates_read s0 s1 p v within read).meets
     (meets_settled_then s1 s2 (count_of (f (pos v))) (put_at p) y (Ok tt) (sym is ∙ answer) (meets_put s1 s2 p y put))
 
-pub meets_arc_trap : (s0 s1 : ViewState) (p v : ℕ) (t : Trap) (f : ℤ → ℤ) (made : Result ℕ Trap) → p < s0.places → Reads s0 s1 p v → made ≡ count_of (f (pos v)) → made ≡ Err t
+pub meets_arc_trap : (s0 s1 : ViewState) (p v : ℕ) (t : Trap) (f : ℤ → ℤ) (made : Result ℕ Trap) → p < s0.places → ReadsCell s0 s1 p v → made ≡ count_of (f (pos v)) → made ≡ Err t
     → Meets s0 s1 (then_do (value_at p) (λ x. assign_at p (f x))) (Err t)
 meets_arc_trap s0 s1 p v t f made within read is answer =
     meets_then s0 s1 s1 (value_at p) (λ x. assign_at p (f x)) (pos v) (Err t) (evaluates_read s0 s1 p v within read).meets

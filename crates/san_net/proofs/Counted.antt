@@ -22,6 +22,7 @@ use Rattle.san_net.specs.Examples.{counting_to, one_case}
 use Rattle.san_net.specs.Leaf.{answer_by, effected_by}
 use Rattle.san_net.specs.Enabled.{all_hold}
 use Rattle.san_base.specs.Rated.{rated_by}
+use Rattle.san_expr.proofs.EvalLemmas.{value_of-place}
 use Rattle.san_net.specs.declared.activity.Input.{Input}
 use Rattle.san_net.specs.declared.activity.Input.TheVariants as input
 use Rattle.san_net.specs.declared.activity.Case.{Case}
@@ -30,10 +31,6 @@ use Rattle.san_net.specs.declared.activity.Output.TheVariants as output
 pub number_value : (n : ℤ) → value_of (Number n) ≡ settled (Ok n)
 unfolding view.roll-Expr denote.Hole.Carrier.roll
 number_value n = fold-roll-Expr (Meaning ℤ) value_step (Expr-F.Number n)
-
-pub place_value : (p : ℕ) → value_of (Place p) ≡ value_at p
-unfolding view.roll-Expr denote.Hole.Carrier.roll
-place_value p = fold-roll-Expr (Meaning ℤ) value_step (Expr-F.Place p)
 
 abbrev the_inputs : List Input
 the_inputs = input.Arc 0 1 ∷ []
@@ -89,7 +86,7 @@ is_computed : (horizon : ℕ) → counting_to horizon ≡ computed horizon
 is_computed horizon =
     ap (λ (m : Meaning ℤ). net_by m (value_of (Number (pos 3))) (value_of (Place 1)) (value_of (Number (pos 5))) horizon) (number_value (pos 1))
     ∙ ap (λ (m : Meaning ℤ). net_by one m (value_of (Place 1)) (value_of (Number (pos 5))) horizon) (number_value (pos 3))
-    ∙ ap (λ (m : Meaning ℤ). net_by one three m (value_of (Number (pos 5))) horizon) (place_value 1)
+    ∙ ap (λ (m : Meaning ℤ). net_by one three m (value_of (Number (pos 5))) horizon) (value_of-place 1)
     ∙ ap (λ (m : Meaning ℤ). net_by one three (value_at 1) m horizon) (number_value (pos 5))
 
 ticks : run_of (computed 10) ≡ ran (tick_at 3 ∷ tick_at 6 ∷ tick_at 9 ∷ []) 10 End

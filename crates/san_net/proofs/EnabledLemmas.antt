@@ -5,7 +5,7 @@ use Rattle.std.proofs.lemmas.Bool.{le-ltb, lt-ltb}
 use Rattle.std.proofs.lemmas.Bool.Decides.{leb_tells}
 use Rattle.std.specs.Prelude.{int_lt}
 use Rattle.san_base.specs.declared.ending.Trap.{Trap}
-use Rattle.san_expr.specs.View.{ViewState, Reads}
+use Rattle.san_expr.specs.View.{ViewState, ReadsCell}
 use Rattle.san_expr.specs.Meaning.{settled, value_at}
 use Rattle.san_expr.specs.Meets.{Evaluates}
 use Rattle.san_expr.proofs.ComposeLemmas.{evaluates_read, evaluates_settled, evaluates_stop, evaluates_then}
@@ -56,7 +56,7 @@ at_least v w = by_test (leb_tells w v)
     by_test (inr t) = t.0 ∙ sym (ap not (lt-ltb v w t.1))
 
 -- a read, and the test of what it gave
-pub evaluates_has : (s0 s1 : ViewState) (p w v : ℕ) → p < s0.places → Reads s0 s1 p v → Evaluates s0 s1 (has_tokens p w) (Ok (nat_le w v))
+pub evaluates_has : (s0 s1 : ViewState) (p w v : ℕ) → p < s0.places → ReadsCell s0 s1 p v → Evaluates s0 s1 (has_tokens p w) (Ok (nat_le w v))
 evaluates_has s0 s1 p w v within read =
     subst (λ (b : Bool). Evaluates s0 s1 (has_tokens p w) (Ok b)) (sym (at_least v w))
     (evaluates_then s0 s1 s1 (value_at p) (λ x. settled (Ok (not (int_lt x (pos w))))) (pos v) (Ok (not (nat_lt v w))) (evaluates_read s0 s1 p v within read)

@@ -8,6 +8,7 @@ use Rattle.std.proofs.lemmas.List.Elements.{All-cons, All-nil}
 use Rattle.std.proofs.lemmas.List.Sums.{length-filter, count_by-le-length, sum_by-cons}
 use Rattle.std.proofs.lemmas.List.Filters.{length-filter_both}
 use Rattle.san_base.specs.declared.ending.Trap.{Trap}
+use Rattle.san_law.proofs.Made.{none_made}
 use Rattle.san_law.specs.Activity as leaf
 use Rattle.san_law.specs.Network as law
 use Rattle.san_net.specs.Accepted.{IsAccepted, rewards_of}
@@ -96,13 +97,6 @@ activity_made terms k a few = record {
   keeps = λ u v e is. (subst (Keeps v) is (keeps a u v)).0;
   sets = λ u v e is. (subst (Keeps v) is (keeps a u v)).1;
   few = λ v. let h = few_impulses terms k v in omega (arith, h, few);
-}
-
-none_made : leaf.IsMade leaf.no_activity
-none_made = record {
-  keeps = λ u v e is. absurd cc;
-  sets = λ u v e is. absurd cc;
-  few = λ v. omega arith;
 }
 
 activities_made : (terms : List ImpulseTerm) → length terms ≤ 1024 → (n : ℕ) (acts : List Named) (k : ℕ) → leaf.IsMade (slice_index_or (activities_from terms n acts) k leaf.no_activity)

@@ -13,7 +13,7 @@ use Rattle.san_net.specs.Network.{Network, net_of, network_in}
 use Rattle.san_net.specs.declared.part.Part.{Part}
 use Rattle.san_net.specs.declared.part.Slot.{Slot}
 use Rattle.san_net.specs.declared.part.Slot.TheVariants.{Private, Shared}
-use Rattle.san_net.specs.Cells.{IsOver}
+use Rattle.san_net.specs.Cells.{LiesOver}
 
 slots_in : (ss : List Slot) → map law_place (map slot_in ss) ≡ map place_of ss
 slots_in [] = refl
@@ -31,7 +31,7 @@ module _ (n : Network) (j : ℕ) (p : Part) (is : slice_get n.parts j ≡ Some p
       inside : j < length (map leaf_of n.parts)
       inside = omega (arith, slice_get_within n.parts j p is, length-map n.parts leaf_of)
 
-  pub lies_over : (m : List ℕ) → length m ≡ length n.initial → ((draw : ℕ → ℕ → ℕ) (limits : law.Limits) → IsLaid (net_of n draw limits) (length n.initial)) → IsOver (places_of p) m
+  pub lies_over : (m : List ℕ) → length m ≡ length n.initial → ((draw : ℕ → ℕ → ℕ) (limits : law.Limits) → IsLaid (net_of n draw limits) (length n.initial)) → LiesOver (places_of p) m
   lies_over m sized laid =
       let draw : ℕ → ℕ → ℕ = λ s k. 0 in
       let limits : law.Limits = record { horizon = 0; burst = 0; events = 0 } in

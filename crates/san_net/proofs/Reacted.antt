@@ -1,4 +1,5 @@
 -- The renewal of an activity with a pair, by computation.
+use Rattle.san_expr.proofs.EvalLemmas.{value_of-place}
 use Rattle.std.proofs.Common.{ℕ, ℤ, ◌≡◌, ◌∙◌, ap, refl, Ok, Some, None, Option, List, [], ◌∷◌}
 use Rattle.std.specs.Prelude.{not}
 use Rattle.san_expr.specs.Delay.{delay_of}
@@ -13,7 +14,6 @@ use Rattle.san_net.specs.Examples.{held_timer, renewed_reacting, row_with, timer
 use Rattle.san_net.specs.Leaf.{answer_by, completed_in, enabled_in, impulses_in}
 use Rattle.san_net.specs.Examples as example
 use Rattle.san_net.specs.declared.activity.Activity.{Activity}
-use Rattle.san_net.proofs.Counted.{place_value}
 
 abbrev holds_by : Meaning ℤ → List ℕ → leaf.Answer
 holds_by m v = answer_by (then_do m (λ x. settled (Ok (not (is_zero x)))) v).answer
@@ -39,7 +39,7 @@ module _ (activation reactivation : Meaning ℤ) where
 
 is_computed : (p q : ℕ) (timers : List (Option net.Timer)) → renewed_reacting p q timers ≡ renewed_by (value_at 0) (value_at 1) p q timers
 is_computed p q timers =
-    ap (λ (m : Meaning ℤ). renewed_by m (value_of (Place 1)) p q timers) (place_value 0) ∙ ap (λ (m : Meaning ℤ). renewed_by (value_at 0) m p q timers) (place_value 1)
+    ap (λ (m : Meaning ℤ). renewed_by m (value_of (Place 1)) p q timers) (value_of-place 0) ∙ ap (λ (m : Meaning ℤ). renewed_by (value_at 0) m p q timers) (value_of-place 1)
 
 pub activated_held : renewed_reacting 1 0 (None ∷ []) ≡ net.Fresh (row_with (Some (held_timer 12) ∷ []) 1)
 activated_held = is_computed 1 0 (None ∷ []) ∙ refl

@@ -7,7 +7,7 @@ use Rattle.std.proofs.lemmas.Bool.{cases_Bool}
 use Rattle.std.proofs.lemmas.Bool.Decides.{eqb_tells}
 use Rattle.std.proofs.lemmas.List.Folds.{list_any-append}
 use Rattle.std.proofs.lemmas.List.Sums.{sum_by-append, sum_by-cons}
-use Rattle.san_net.specs.Numbering.{firsts, is_often, ordered, Differ, AreRecorded, all_of, EachDiffers, number}
+use Rattle.san_net.specs.Numbering.{firsts, is_often, ordered, Differ, AreRecorded, all_of, number}
 use Rattle.san_net.proofs.SeenLemmas.{none_of, found-same, count-none}
 
 any-split : {K : Type 0} (t p : K → Bool) (xs : List K) → list_any t (filter p xs ++ filter (λ k. not (p k)) xs) ≡ list_any t xs
@@ -31,6 +31,11 @@ any-split t p xs = list_any-append t (filter p xs) (filter (λ k. not (p k)) xs)
     both (x ∷ xs) = one x xs (p x) (both xs)
 
 module _ {K : Type 0} (E : K → K → Bool) (e : IsEquivalence E) where
+  -- no row has an item twice
+  abbrev pub EachDiffers : List (List K) → Type 0
+  EachDiffers [] = Unit {0}
+  EachDiffers (row ∷ rows) = Differ E row × EachDiffers rows
+
   count-apart : (k : K) (row : List K) → Differ E row → count_by (E k) row ≡ none_of (list_any (E k) row)
   count-apart k [] a = refl
   count-apart k (x ∷ row) a = by_test (cases_Bool (E k x)) (count-apart k row a.1)
@@ -49,7 +54,7 @@ module _ {K : Type 0} (E : K → K → Bool) (e : IsEquivalence E) where
           omega (arith, front, rest, here, all)
 
   -- how often an item is in all rows is in how many rows it is
-  pub count-rows : (k : K) (rows : List (List K)) → EachDiffers E rows → count_by (E k) (all_of rows) ≡ count_by (λ row. list_any (E k) row) rows
+  pub count-rows : (k : K) (rows : List (List K)) → EachDiffers rows → count_by (E k) (all_of rows) ≡ count_by (λ row. list_any (E k) row) rows
   count-rows k [] a = refl
   count-rows k (row ∷ rows) a =
       let front = sum_by-append (λ w. none_of (E k w)) row (all_of rows) in
@@ -120,7 +125,7 @@ module _ {K : Type 0} (E : K → K → Bool) (e : IsEquivalence E) where
       or-true true = refl
       or-true false = refl
 
-  pub recorded-importers : (rows : List (List K)) (ks : List K) (amounts : List ℕ) → EachDiffers E rows → AreRecorded E (all_of rows) ks amounts → (k : K) → list_any (E k) (all_of rows) ≡ true → count_by (λ row. list_any (nat_eq (number E (all_of rows) k)) (map (number E (all_of rows)) row)) rows ≡ count_by (E k) (all_of rows)
+  pub recorded-importers : (rows : List (List K)) (ks : List K) (amounts : List ℕ) → EachDiffers rows → AreRecorded E (all_of rows) ks amounts → (k : K) → list_any (E k) (all_of rows) ≡ true → count_by (λ row. list_any (nat_eq (number E (all_of rows) k)) (map (number E (all_of rows)) row)) rows ≡ count_by (E k) (all_of rows)
   recorded-importers rows ks amounts a t k h =
       let there : (j : K) → list_any (E j) (all_of rows) ≡ true → list_any (E j) (ordered E (all_of rows)) ≡ true = λ j s. any-split (E j) (is_often E (all_of rows)) (firsts E (all_of rows)) ∙ ap (list_any (E j)) (sym t.keys) ∙ t.all j ∙ s in
       importers-count (ordered E (all_of rows)) rows rows k (there k h) there ∙ sym (count-rows k rows a)

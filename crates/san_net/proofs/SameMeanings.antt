@@ -5,10 +5,10 @@ use Rattle.san_base.specs.declared.ending.Trap.{Trap}
 use Rattle.san_expr.proofs.ComposeLemmas.{looks_both}
 use Rattle.san_expr.specs.View.{ViewState, is_known}
 use Rattle.san_expr.specs.Concerns.{AssignsNothing}
-use Rattle.san_expr.specs.Meaning.{Outcome, Meaning, settled, go_on, joined, then_do}
+use Rattle.san_expr.specs.Meaning.{Evaluation, Meaning, settled, go_on, joined, then_do}
 use Rattle.san_expr.specs.Meets.{Evaluates, Meets, marking_of}
 
-pub record AreSame {T : Type 0} (a b : Outcome T) : Type 0 where
+pub record AreSame {T : Type 0} (a b : Evaluation T) : Type 0 where
   pub answer : a.answer ≡ b.answer
   pub left : a.left ≡ b.left
   pub looks : (p : ℕ) → a.looks p ≡ b.looks p
@@ -30,7 +30,7 @@ same_trans a b c h k m = record {
 
 module _ {T U : Type 0} where
   -- the same first, then the same next
-  then_by : (f g : T → Meaning U) → ((x : T) → Same (f x) (g x)) → (r : Result T Trap) (A : Outcome T) → AreSame (go_on r A f) (go_on r A g)
+  then_by : (f g : T → Meaning U) → ((x : T) → Same (f x) (g x)) → (r : Result T Trap) (A : Evaluation T) → AreSame (go_on r A f) (go_on r A g)
   then_by f g h (Err t) A = record { answer = refl; left = refl; looks = λ p. refl; sets = λ p. refl }
   then_by f g h (Ok x) A = record {
     answer = (h x A.left).answer;
@@ -42,7 +42,7 @@ module _ {T U : Type 0} where
   pub then_same : (a : Meaning T) (f g : T → Meaning U) → ((x : T) → Same (f x) (g x)) → Same (then_do a f) (then_do a g)
   then_same a f g h m = then_by f g h (a m).answer (a m)
 
-  first_by : (f : T → Meaning U) (r : Result T Trap) (A B : Outcome T) → A.left ≡ B.left → ((p : ℕ) → A.looks p ≡ B.looks p) → ((p : ℕ) → A.sets p ≡ B.sets p)
+  first_by : (f : T → Meaning U) (r : Result T Trap) (A B : Evaluation T) → A.left ≡ B.left → ((p : ℕ) → A.looks p ≡ B.looks p) → ((p : ℕ) → A.sets p ≡ B.sets p)
       → AreSame (go_on r A f) (go_on r B f)
   first_by f (Err t) A B l k s = record { answer = refl; left = l; looks = k; sets = s }
   first_by f (Ok x) A B l k s = record {
@@ -70,7 +70,7 @@ or_gone false s true h = absurd (let e : false ≡ true = h refl in cc)
 or_gone false s false h = refl
 
 -- an outcome that looks at nothing new and leaves all as it is
-pub record AddsNothing {T : Type 0} (known : ℕ → Bool) (o : Outcome T) (r : Result T Trap) (m : List ℕ) : Type 0 where
+pub record AddsNothing {T : Type 0} (known : ℕ → Bool) (o : Evaluation T) (r : Result T Trap) (m : List ℕ) : Type 0 where
   pub answer : o.answer ≡ r
   pub left : o.left ≡ m
   pub looks : (p : ℕ) → o.looks p ≡ true → known p ≡ true
@@ -96,7 +96,7 @@ module _ {T U : Type 0} where
   again a f r nothing h m = again_by a f r m (nothing m).0 (h m) (a m).answer refl
 
 module _ {S T U : Type 0} where
-  three_by : (g : T → Meaning U) (A : Outcome S) (B : Outcome T) (r : Result T Trap) → AreSame (go_on r (joined A B) g) (joined A (go_on r B g))
+  three_by : (g : T → Meaning U) (A : Evaluation S) (B : Evaluation T) (r : Result T Trap) → AreSame (go_on r (joined A B) g) (joined A (go_on r B g))
   three_by g A B (Err t) = record { answer = refl; left = refl; looks = λ p. refl; sets = λ p. refl }
   three_by g A B (Ok y) = record {
     answer = refl;
@@ -105,7 +105,7 @@ module _ {S T U : Type 0} where
     sets = λ p. or_assoc (A.sets p) (B.sets p) ((g y B.left).sets p);
   }
 
-  two_by : (f : S → Meaning T) (g : T → Meaning U) (A : Outcome S) (r : Result S Trap)
+  two_by : (f : S → Meaning T) (g : T → Meaning U) (A : Evaluation S) (r : Result S Trap)
       → AreSame (go_on (go_on r A f).answer (go_on r A f) g) (go_on r A (λ x. then_do (f x) g))
   two_by f g A (Err t) = record { answer = refl; left = refl; looks = λ p. refl; sets = λ p. refl }
   two_by f g A (Ok x) = three_by g A (f x A.left) (f x A.left).answer

@@ -91,7 +91,7 @@ pub record AreNumbered (n : Network) : Type 0 where
   pub places : ordered nat_eq (all_places n.parts) ≡ counting 0 (length n.initial)
 
 -- the limits of a network
-pub record IsSmall (n : Network) : Type 0 where
+pub record IsWithinLimits (n : Network) : Type 0 where
   pub leaves : length n.parts ≤ MAX_LEAVES
   pub places : length n.initial ≤ MAX_PLACES
   pub acts : acts_of n.parts ≤ MAX_ACTS
@@ -105,4 +105,4 @@ pub record IsNetwork (n : Network) : Type 0 where
   pub numbered : AreNumbered n
   -- the places that two or more parts have
   pub shared : n.shared ≡ length (repeated nat_eq (all_places n.parts))
-  pub small : IsSmall n
+  pub small : IsWithinLimits n

@@ -3,7 +3,7 @@
 use Rattle.std.specs.Prelude.{ℕ, suc, nat_eq, Bool, true, false, List, [], ◌∷◌, map, filter, Option, Some, None, Result, Ok, Err}
 use Rattle.san_base.specs.declared.ending.Trap.{Trap}
 use Rattle.san_expr.specs.Delay.{delay_of}
-use Rattle.san_expr.specs.Meaning.{Outcome}
+use Rattle.san_expr.specs.Meaning.{Evaluation}
 use Rattle.san_expr.specs.Value.{value_of}
 use Rattle.san_expr.specs.declared.expr.Expr.{Expr}
 use Rattle.san_law.specs.Activity as leaf
@@ -38,7 +38,7 @@ enabled_in a v = answer_by (enabled_of a v).answer
 abbrev pub holds_in : Expr → List ℕ → leaf.Answer
 holds_in e v = answer_by (truth_of e v).answer
 
-abbrev pub effected_by : Outcome ℕ → Result ℕ Trap → Result leaf.Effected Trap
+abbrev pub effected_by : Evaluation ℕ → Result ℕ Trap → Result leaf.Effected Trap
 effected_by o (Err trap) = Err trap
 effected_by o (Ok case) = Ok (record { case = case; values = o.left; sets = o.sets })
 

@@ -35,11 +35,6 @@ module _ {K : Type 0} (E : K → K → Bool) where
   Differ [] = Unit {0}
   Differ (k ∷ ks) = (list_any (E k) ks ≡ false) × Differ ks
 
-  -- no row has an item twice
-  abbrev pub EachDiffers : List (List K) → Type 0
-  EachDiffers [] = Unit {0}
-  EachDiffers (row ∷ rows) = Differ row × EachDiffers rows
-
   -- what is known after items were seen one by one: the different ones and how often each appeared
   pub record AreRecorded (xs ks : List K) (amounts : List ℕ) : Type 0 where
     pub keys : ks ≡ firsts xs

@@ -5,7 +5,7 @@ ghost use Rattle.san_expr.specs.View.{plain};
 ghost use Rattle.san_law.specs.Clocks.{same_list};
 ghost use Rattle.san_law.specs.Lawful.{AllBelow};
 ghost use Rattle.san_law.specs.State.{gather, scatter};
-ghost use Rattle.san_net.specs.Cells.{IsOver};
+ghost use Rattle.san_net.specs.Cells.{LiesOver};
 ghost use Rattle.san_net.specs.Laid.{place_of};
 
 use crate::part::Slot;
@@ -68,7 +68,7 @@ pub fn gather(slots: &[Slot], marking: &[u32], values: &mut [u32])
 /// Puts a leaf's values into a marking.
 pub fn scatter(slots: &[Slot], values: &[u32], marking: &mut [u32])
     requires sized { length values.now ≡ length slots.now }
-    requires over { IsOver (map place_of slots.now) marking.old }
+    requires over { LiesOver (map place_of slots.now) marking.old }
     ensures { marking.new ≡ scatter (map place_of slots.now) values.now marking.old }
 {
     'cells: for k in 0..slots.len() {
@@ -96,7 +96,7 @@ pub fn same_values(slots: &[Slot], a: &[u32], b: &[u32]) -> bool
 /// Gives a leaf's cells in a marking the values that they have in another.
 pub fn copy_cells(slots: &[Slot], from: &[u32], to: &mut [u32])
     requires sized { length to.old ≡ length from.now }
-    requires over { IsOver (map place_of slots.now) from.now }
+    requires over { LiesOver (map place_of slots.now) from.now }
     ensures { to.new ≡ scatter (map place_of slots.now) (gather (map place_of slots.now) from.now) to.old }
 {
     'cells: for k in 0..slots.len() {

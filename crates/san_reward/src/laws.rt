@@ -1,7 +1,7 @@
 //! What a tally counts is what the law says of its network.
 
 ghost use Rattle.std.specs.Prelude.{◌≡◌, ◌≤◌, ◌*◌, ◌∷◌, [], List, ℕ};
-ghost use Rattle.san_base.specs.declared.limits.TheConstants.{MAX_EVENTS};
+ghost use Rattle.san_base.specs.declared.limits.TheConstants.{MAX_EVENTS, MAX_EVENT_IMPULSES};
 ghost use Rattle.san_law.specs.Net.{Net};
 ghost use Rattle.san_law.specs.Network.{Limits};
 ghost use Rattle.san_law.specs.Reward.{worth};
@@ -41,6 +41,6 @@ pub fn impulses_are_those_of_the_event()
 /// may have and count values of terms: ten thousand of them are summed in 128 bits.
 pub fn worths_are_small()
     ensures { (n : Network) (draw : ℕ → ℕ → ℕ) (limits : Limits) (opening : State) (es : List Event)
-        (r : ℕ) → IsNetwork n → impulses_in es ≤ MAX_EVENTS * 1024 → AreRated es
+        (r : ℕ) → IsNetwork n → impulses_in es ≤ MAX_EVENTS * MAX_EVENT_IMPULSES → AreRated es
         → IsSmallWorth (worth (net_of n draw limits) r opening es) }
 {}

@@ -8,7 +8,7 @@ use Rattle.san_text.specs.declared.text.Parsed.{Parsed}
 use Rattle.san_text.specs.declared.text.Refusal.{Refusal}
 use Rattle.san_text.proofs.CountLemmas.{spots_length}
 use Rattle.san_check.specs.build.Cells.{elements_of}
-use Rattle.san_check.specs.Checked.{IsRead}
+use Rattle.san_check.specs.Checked.{IsOfText}
 use Rattle.san_check.specs.walk.Entries.{code, ◌else◌, reported}
 use Rattle.san_check.specs.build.Atomic.{atomics_of}
 use Rattle.san_check.specs.build.Composition.{nodes_of, root_of}
@@ -29,7 +29,7 @@ use Rattle.san_serve.specs.declared.codes.TheConstants.{TOO_MANY_ACTS, TOO_MANY_
 use Rattle.san_serve.specs.declared.acceptance.NotAccepted.{NotAccepted}
 use Rattle.san_serve.proofs.OffsetLemmas.{few_spots}
 
-pub is_read : (text : List ℕ) (x : Parsed) → length text ≤ MAX_TEXT_BYTES → parsed text ≡ Ok x → IsRead x.syntax
+pub is_read : (text : List ℕ) (x : Parsed) → length text ≤ MAX_TEXT_BYTES → parsed text ≡ Ok x → IsOfText x.syntax
 is_read text x short is = record { text = text; found = x; short = short; parses = is; syntax = refl }
 
 pub composed : (m : Model) (s : Syntax) → m.system ≡ s.system → m.atomics ≡ atomics_of s → m.tree.nodes ≡ nodes_of s → m.tree.root ≡ root_of s → m.rewards ≡ rewards_of s → m.cells ≡ elements_of s

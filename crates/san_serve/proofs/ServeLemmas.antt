@@ -4,28 +4,28 @@ use Rattle.san_base.specs.Flow.{TakesFirst}
 use Rattle.san_base.specs.declared.status.Status.{Status}
 use Rattle.san_base.specs.declared.status.Status.TheVariants as status
 use Rattle.san_text.specs.declared.text.Refusal.{Refusal}
-use Rattle.san_serve.specs.Answers.{Answers, IsRefused, ServesBytes}
+use Rattle.san_serve.specs.Answers.{StatusSays, IsRefused, ServesBytes}
 use Rattle.san_serve.specs.Bounds.{IsRead, too_long}
 use Rattle.san_serve.specs.declared.bound.Bound.{Bound}
 use Rattle.san_serve.specs.Notes.{IsLine, status_line}
-use Rattle.san_serve.specs.Tasks.{Meaning}
+use Rattle.san_serve.specs.Tasks.{TaskMeaning}
 use Rattle.san_serve.specs.inner.Serving.{Concludes, Serves, answer_of}
 use Rattle.san_serve.specs.declared.task.Served.{Served}
 use Rattle.san_serve.specs.declared.task.Served.TheVariants as served
 
 -- bytes that were read
-served_read : (m : Meaning) (s : Served) (bytes : List ℕ) (left rest old new : Option (List ℕ)) → IsRead m.bound left rest bytes → ServesBytes m s bytes old new → Serves m (answer_of s) left rest old new
+served_read : (m : TaskMeaning) (s : Served) (bytes : List ℕ) (left rest old new : Option (List ℕ)) → IsRead m.bound left rest bytes → ServesBytes m s bytes old new → Serves m (answer_of s) left rest old new
 served_read m served.Done bytes left rest old new is h = (bytes, is, h)
 served_read m served.Stopped bytes left rest old new is h = (bytes, is, h)
 served_read m served.WriteFault bytes left rest old new is h = (bytes, is, h)
 served_read m served.NoMemory bytes left rest old new is h = h
 served_read m (served.Refused refusal) bytes left rest old new is h = (inr (bytes, is, h.0), h.1)
 
-pub serves_read : (m : Meaning) (s : Served) (answer : Result Status Refusal) (bytes : List ℕ) (left rest old new : Option (List ℕ)) → answer ≡ answer_of s → IsRead m.bound left rest bytes → ServesBytes m s bytes old new → Serves m answer left rest old new
+pub serves_read : (m : TaskMeaning) (s : Served) (answer : Result Status Refusal) (bytes : List ℕ) (left rest old new : Option (List ℕ)) → answer ≡ answer_of s → IsRead m.bound left rest bytes → ServesBytes m s bytes old new → Serves m answer left rest old new
 serves_read m s answer bytes left rest old new e is h = subst (λ (a : Result Status Refusal). Serves m a left rest old new) (sym e) (served_read m s bytes left rest old new is h)
 
 -- more bytes than are served
-pub serves_none : (m : Meaning) (b : Bound) (refusal : Refusal) (left rest old new : Option (List ℕ)) → b ≡ m.bound → refusal ≡ too_long b → TakesFirst left rest (b.bytes + 1) → new ≡ old → Serves m (Err refusal) left rest old new
+pub serves_none : (m : TaskMeaning) (b : Bound) (refusal : Refusal) (left rest old new : Option (List ℕ)) → b ≡ m.bound → refusal ≡ too_long b → TakesFirst left rest (b.bytes + 1) → new ≡ old → Serves m (Err refusal) left rest old new
 serves_none m b refusal left rest old new is e takes same = (inl (subst (λ (x : Bound). TakesFirst left rest (x.bytes + 1)) is takes, e ∙ ap too_long is), same)
 
 -- a write fault is one of serving, and no read fault is
@@ -50,12 +50,12 @@ pub was_read : (s : Served) (answer : Result Status Refusal) → answer ≡ answ
 was_read s answer is e = no_fault_of_read s (sym is ∙ e)
 
 -- what the status says, and the line of the notes
-pub record Concluded (m : Meaning) (s : Status) (left rest old new : Option (List ℕ)) (IsPut : List ℕ → Type 0) : Type 0 where
-  pub answers : Answers m s left rest old new
+pub record Concluded (m : TaskMeaning) (s : Status) (left rest old new : Option (List ℕ)) (IsPut : List ℕ → Type 0) : Type 0 where
+  pub answers : StatusSays m s left rest old new
   pub noted : (line : List ℕ) × IsLine s (IsRefused m.bound m.refuses left rest) line × IsPut line
   pub heard : s ≡ status.Words → ⊥
 
-with_status : (m : Meaning) (s : Status) (left rest old new : Option (List ℕ)) (IsPut : List ℕ → Type 0) → Serves m (Ok s) left rest old new → IsPut (status_line s) → Concluded m s left rest old new IsPut
+with_status : (m : TaskMeaning) (s : Status) (left rest old new : Option (List ℕ)) (IsPut : List ℕ → Type 0) → Serves m (Ok s) left rest old new → IsPut (status_line s) → Concluded m s left rest old new IsPut
 with_status m status.Done left rest old new IsPut h t = record { answers = h; noted = (_, refl, t); heard = λ e. absurd cc }
 with_status m status.Words left rest old new IsPut h t = absurd h
 with_status m status.Refused left rest old new IsPut h t = absurd h
@@ -64,7 +64,7 @@ with_status m status.WriteFault left rest old new IsPut h t = record { answers =
 with_status m status.Stopped left rest old new IsPut h t = record { answers = h; noted = (_, refl, t); heard = λ e. absurd cc }
 with_status m status.NoMemory left rest old new IsPut h t = record { answers = h; noted = (_, refl, t); heard = λ e. absurd cc }
 
-with_refusal : (m : Meaning) (r : Refusal) (s : Status) (left rest old new : Option (List ℕ)) (IsPut : List ℕ → Type 0) → Serves m (Err r) left rest old new → Concludes (Err r) s IsPut → Concluded m s left rest old new IsPut
+with_refusal : (m : TaskMeaning) (r : Refusal) (s : Status) (left rest old new : Option (List ℕ)) (IsPut : List ℕ → Type 0) → Serves m (Err r) left rest old new → Concludes (Err r) s IsPut → Concluded m s left rest old new IsPut
 with_refusal m r status.Done left rest old new IsPut h t = absurd t
 with_refusal m r status.Words left rest old new IsPut h t = absurd t
 with_refusal m r status.Refused left rest old new IsPut h t = record { answers = (r, h.0, h.1); noted = (_, (r, h.0, refl), t); heard = λ e. absurd cc }
@@ -73,6 +73,6 @@ with_refusal m r status.WriteFault left rest old new IsPut h t = absurd t
 with_refusal m r status.Stopped left rest old new IsPut h t = absurd t
 with_refusal m r status.NoMemory left rest old new IsPut h t = record { answers = h.1; noted = (_, refl, t); heard = λ e. absurd cc }
 
-pub concluded : (m : Meaning) (answer : Result Status Refusal) (s : Status) (left rest old new : Option (List ℕ)) (IsPut : List ℕ → Type 0) → Serves m answer left rest old new → Concludes answer s IsPut → Concluded m s left rest old new IsPut
+pub concluded : (m : TaskMeaning) (answer : Result Status Refusal) (s : Status) (left rest old new : Option (List ℕ)) (IsPut : List ℕ → Type 0) → Serves m answer left rest old new → Concludes answer s IsPut → Concluded m s left rest old new IsPut
 concluded m (Ok was) s left rest old new IsPut h t = subst (λ (x : Status). Concluded m x left rest old new IsPut) (sym t.0) (with_status m was left rest old new IsPut h t.1)
 concluded m (Err r) s left rest old new IsPut h t = with_refusal m r s left rest old new IsPut h t

@@ -3,7 +3,7 @@
 
 ghost use Rattle.std.specs.Prelude.{◌≡◌, List, ℕ, Ok};
 ghost use Rattle.san_base.specs.Flow.{CountRose};
-ghost use Rattle.san_serve.specs.Answers.{Answers, IsRefused};
+ghost use Rattle.san_serve.specs.Answers.{StatusSays, IsRefused};
 ghost use Rattle.san_serve.specs.Notes.{IsLine, Noted};
 ghost use Rattle.san_serve.specs.inner.Serving.{Serves, answer_of};
 
@@ -58,7 +58,7 @@ pub fn serve_noted<T: Task, S: Source, K: Sink, N: Sink>(
     sink: &mut K,
     notes: &mut N,
 ) -> Status
-    ensures answer { Answers (T.meaning task.now) result (S.left source.old) (S.left source.new)
+    ensures answer { StatusSays (T.meaning task.now) result (S.left source.old) (S.left source.new)
         (K.held sink.old) (K.held sink.new) }
     ensures noted { (line : List ℕ) × IsLine result (IsRefused (T.meaning task.now).bound
         (T.meaning task.now).refuses (S.left source.old) (S.left source.new)) line

@@ -26,10 +26,10 @@ pub enum Served {
 
 /// Serving bytes, in one program's way.
 pub trait Task {
-    ghost use Rattle.san_serve.specs.Tasks.{Meaning};
+    ghost use Rattle.san_serve.specs.Tasks.{TaskMeaning};
 
     /// What is served, and what of it is written.
-    ghost meaning: { Self → Meaning };
+    ghost meaning: { Self → TaskMeaning };
 
     /// The most bytes that are served.
     fn bound(&self) -> Bound

@@ -17,24 +17,24 @@ pub written_append : (us vs : List Word) (p : Written) → written p (us ++ vs) 
 written_append [] vs p = refl
 written_append (u ∷ us) vs p = written_append us vs (put p u)
 
-gap_is : (b : layout.Before) (d : ℕ) (w : Word) (h : Bool) (c : ℕ) → hugs w ≡ h → closes w ≡ c → gap_by b d h c ≡ gap b d w
+gap_is : (b : layout.Spacing) (d : ℕ) (w : Word) (h : Bool) (c : ℕ) → hugs w ≡ h → closes w ≡ c → gap_by b d h c ≡ gap b d w
 gap_is layout.Line d w h c eh ec = ap (λ (n : ℕ). spaces (2 * (d - n))) (sym ec)
 gap_is layout.Tight d w h c eh ec = refl
 gap_is layout.Loose d w h c eh ec = ap (λ (x : Bool). cond x [] (32 ∷ [])) (sym eh)
 
-abbrev made : List ℕ → layout.Before → ℕ → Written
+abbrev made : List ℕ → layout.Spacing → ℕ → Written
 made bytes b d = record { bytes = bytes; before = b; depth = d }
 
-put_is : (p : Written) (w : Word) (text : List ℕ) (h : Bool) (c : ℕ) (next : layout.Before) (d : ℕ) → text_of w ≡ text → hugs w ≡ h → closes w ≡ c → before w ≡ next → depth_after w p.depth ≡ d → put_by p text h c next d ≡ put p w
+put_is : (p : Written) (w : Word) (text : List ℕ) (h : Bool) (c : ℕ) (next : layout.Spacing) (d : ℕ) → text_of w ≡ text → hugs w ≡ h → closes w ≡ c → before w ≡ next → depth_after w p.depth ≡ d → put_by p text h c next d ≡ put p w
 unfolding put
 put_is p w text h c next d et eh ec eb ed =
     ap (λ (g : List ℕ). made (p.bytes ++ (g ++ (text ++ ending next))) next d) (gap_is p.before p.depth w h c eh ec)
     ∙ ap (λ (t : List ℕ). made (p.bytes ++ (gap p.before p.depth w ++ (t ++ ending next))) next d) (sym et)
-    ∙ ap (λ (b : layout.Before). made (p.bytes ++ (gap p.before p.depth w ++ (text_of w ++ ending b))) b d) (sym eb)
+    ∙ ap (λ (b : layout.Spacing). made (p.bytes ++ (gap p.before p.depth w ++ (text_of w ++ ending b))) b d) (sym eb)
     ∙ ap (λ (n : ℕ). made (p.bytes ++ (gap p.before p.depth w ++ (text_of w ++ ending (before w)))) (before w) n) (sym ed)
 
 -- what is put of each kind of word
-pub put_fixed : (p : Written) (s : Sign) (text : List ℕ) (h : Bool) (c : ℕ) (next : layout.Before) (d : ℕ) → text ≡ sign_text s → h ≡ sign_hugs s → c ≡ sign_closes s → next ≡ sign_before s → d ≡ sign_depth s p.depth → put_by p text h c next d ≡ put p (Fixed s)
+pub put_fixed : (p : Written) (s : Sign) (text : List ℕ) (h : Bool) (c : ℕ) (next : layout.Spacing) (d : ℕ) → text ≡ sign_text s → h ≡ sign_hugs s → c ≡ sign_closes s → next ≡ sign_before s → d ≡ sign_depth s p.depth → put_by p text h c next d ≡ put p (Fixed s)
 unfolding text_of hugs before depth_after
 put_fixed p s text h c next d et eh ec eb ed = put_is p (Fixed s) text h c next d (sym et) (sym eh) (sym ec) (sym eb) (sym ed)
 

@@ -17,7 +17,7 @@ use Rattle.san_text.proofs.CountLemmas.{reading_of}
 use Rattle.san_show.specs.Canonical.{canonical}
 
 -- a text of these words
-heard_as : (text : List ℕ) (ws : List Word) (s : Syntax) (left : ℕ) (r : Result (List Located) lexer.Fault) → heard r ≡ Ok ws → syntax_at ws ≡ Ok (s, left) → (y : Parsed) × (parsed_tokens text r ≡ Ok y) × (y.syntax ≡ s)
+heard_as : (text : List ℕ) (ws : List Word) (s : Syntax) (left : ℕ) (r : Result (List Located) lexer.TokenFault) → heard r ≡ Ok ws → syntax_at ws ≡ Ok (s, left) → (y : Parsed) × (parsed_tokens text r ≡ Ok y) × (y.syntax ≡ s)
 heard_as text ws s left (Ok ps) e read =
     let same : map word_of ps ≡ ws = cc in
     let y : Parsed = record { syntax = s; spots = spots_of ps; system = offset_of text ps left } in

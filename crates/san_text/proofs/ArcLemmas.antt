@@ -15,7 +15,7 @@ use Rattle.san_text.specs.declared.syntax.Cases.{Cases}
 use Rattle.san_text.specs.declared.syntax.Cases.TheVariants as cases
 use Rattle.san_text.specs.declared.syntax.CaseDecl.{CaseDecl}
 use Rattle.san_text.specs.Words.{look, is_next, tail, number_of}
-use Rattle.san_text.specs.Steps.{Fault, ◌>>=◌, sign_at, many, next_mark, next_keyword}
+use Rattle.san_text.specs.Steps.{GrammarFault, ◌>>=◌, sign_at, many, next_mark, next_keyword}
 use Rattle.san_text.specs.Statements.{block}
 use Rattle.san_text.specs.Activities.{arc_at, function_at, input_arc, gate_at, input_at, starts_input, output_arc, body_at, output_at, starts_output, case_at, weighted_at, plain_at, cases_at}
 use Rattle.san_text.specs.Spelling.{spelling, body_words}
@@ -40,7 +40,7 @@ function_none version after = refl
 
 function_body : (version : ℕ) (us : List Word) → function_at version (Fixed (sign.Keyword keyword.Do) ∷ us) ≡ block version 14 us
 unfolding function_at is_next
-function_body version us = ap (λ (r : Result (List Word) Fault). r >>= λ d. block version 14 d) (sign_again (sign.Keyword keyword.Do) us)
+function_body version us = ap (λ (r : Result (List Word) GrammarFault). r >>= λ d. block version 14 d) (sign_again (sign.Keyword keyword.Do) us)
 
 -- where a function is read, an expression before it ended, and does so before its spelling
 record Gated (version : ℕ) (ws : List Word) (p : List StmtDecl × List Word) : Type 0 where

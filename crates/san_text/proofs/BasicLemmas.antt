@@ -3,7 +3,7 @@ use Rattle.std.proofs.Common.{◌≡◌, ℕ, zero, suc, ◌≤◌, Bool, true, 
 use Rattle.std.proofs.lemmas.List.{length-append}
 use Rattle.san_lex.specs.Lexer.{Word, Number, Name, Fixed}
 use Rattle.san_text.specs.Words.{look, name_of, number_of}
-use Rattle.san_text.specs.Steps.{Reads, ◌>>=◌, name_at, number_at, number_or_none, many, all_of}
+use Rattle.san_text.specs.Steps.{Reading, ◌>>=◌, name_at, number_at, number_or_none, many, all_of}
 use Rattle.san_text.specs.Expressions.{expr}
 use Rattle.san_text.specs.Spelling.{spelling, joined}
 use Rattle.san_text.specs.ActivityWords.{number_words}
@@ -71,19 +71,19 @@ weight_law = record { kept = number_or }
 
 -- ---- lists
 
-pub record Items {A : Type 0} (f : A → List Word) (starts : List Word → Bool) (item : Reads A) (Calm : List Word → Type 0) : Type 0 where
+pub record Items {A : Type 0} (f : A → List Word) (starts : List Word → Bool) (item : Reading A) (Calm : List Word → Type 0) : Type 0 where
   pub none : starts [] ≡ false
   pub easy : (ws : List Word) → starts ws ≡ true → Calm ws
   pub begins : (ws : List Word) (p : A × List Word) → starts ws ≡ true → item ws ≡ Ok p → (after : List Word) → starts (f p.0 ++ after) ≡ true
   pub keeps : (ws : List Word) (p : A × List Word) → starts ws ≡ true → item ws ≡ Ok p → Kept f item (λ was now. Calm now) ws p
 
-record Many {A : Type 0} (f : A → List Word) (starts : List Word → Bool) (item : Reads A) (Calm : List Word → Type 0) (ws : List Word) (p : List A × List Word) : Type 0 where
+record Many {A : Type 0} (f : A → List Word) (starts : List Word → Bool) (item : Reading A) (Calm : List Word → Type 0) (ws : List Word) (p : List A × List Word) : Type 0 where
   words : Alike ws (joined (map f p.0) ++ p.1)
   easy : (after : List Word) → Calm after → Calm (joined (map f p.0) ++ after)
   room : length p.0 ≤ length (joined (map f p.0))
   again : (m : ℕ) → length p.0 ≤ m → (after : List Word) → Calm after → starts after ≡ false → many starts item m (joined (map f p.0) ++ after) ≡ Ok (p.0, after)
 
-no_items : {A : Type 0} (f : A → List Word) (starts : List Word → Bool) (item : Reads A) (Calm : List Word → Type 0) (ws : List Word) (p : List A × List Word) → ([], ws) ≡ p → Many f starts item Calm ws p
+no_items : {A : Type 0} (f : A → List Word) (starts : List Word → Bool) (item : Reading A) (Calm : List Word → Type 0) (ws : List Word) (p : List A × List Word) → ([], ws) ≡ p → Many f starts item Calm ws p
 no_items f starts item Calm ws p e =
     subst (λ (q : List _ × List Word). Many f starts item Calm ws q) e (record { words = alike_refl ws; easy = λ after h. h; room = omega arith; again = λ m le after calm stop. many_stops starts item m after stop })
 
@@ -95,7 +95,7 @@ filled : (starts : List Word → Bool) → starts [] ≡ false → (us : List Wo
 filled starts none [] h = absurd cc
 filled starts none (u ∷ us) h = omega arith
 
-found_item : {A : Type 0} (f : A → List Word) (starts : List Word → Bool) (item : Reads A) (Calm : List Word → Type 0) → Items f starts item Calm → (n : ℕ)
+found_item : {A : Type 0} (f : A → List Word) (starts : List Word → Bool) (item : Reading A) (Calm : List Word → Type 0) → Items f starts item Calm → (n : ℕ)
     → ((ws : List Word) (p : List A × List Word) → many starts item n ws ≡ Ok p → Many f starts item Calm ws p)
     → (b : Bool) (ws : List Word) (p : List A × List Word) → starts ws ≡ b → cond b (item ws >>= λ x. many starts item n x.1 >>= λ y. Ok (x.0 ∷ y.0, y.1)) (Ok ([], ws)) ≡ Ok p → Many f starts item Calm ws p
 unfolding many
@@ -121,7 +121,7 @@ found_item f starts item Calm items n rest true ws p is e =
           (then_ok (many starts item j.0 (J ++ after)) (λ y. Ok (a.0.0 ∷ y.0, y.1)) (b.0.0, after) (a.0.0 ∷ b.0.0, after) (t.again j.0 j.2 after calm stop) refl);
     })
 
-many_law : {A : Type 0} (f : A → List Word) (starts : List Word → Bool) (item : Reads A) (Calm : List Word → Type 0) → Items f starts item Calm → (n : ℕ) (ws : List Word) (p : List A × List Word) → many starts item n ws ≡ Ok p → Many f starts item Calm ws p
+many_law : {A : Type 0} (f : A → List Word) (starts : List Word → Bool) (item : Reading A) (Calm : List Word → Type 0) → Items f starts item Calm → (n : ℕ) (ws : List Word) (p : List A × List Word) → many starts item n ws ≡ Ok p → Many f starts item Calm ws p
 unfolding many
 many_law f starts item Calm items zero ws p e = no_items f starts item Calm ws p (ok_is ([], ws) p e)
 many_law f starts item Calm items (suc n) ws p e = found_item f starts item Calm items n (many_law f starts item Calm items n) (starts ws) ws p refl e
@@ -133,7 +133,7 @@ list_words f xs = joined (map f xs)
 abbrev pub Over : (List Word → Bool) → Follow
 Over starts was now = starts now ≡ false
 
-pub calm_list_law : {A : Type 0} {f : A → List Word} {starts : List Word → Bool} {item : Reads A} {Calm : List Word → Type 0} → Items f starts item Calm → Law (list_words f) (all_of starts item) (λ was now. (starts now ≡ false) × Calm now)
+pub calm_list_law : {A : Type 0} {f : A → List Word} {starts : List Word → Bool} {item : Reading A} {Calm : List Word → Type 0} → Items f starts item Calm → Law (list_words f) (all_of starts item) (λ was now. (starts now ≡ false) × Calm now)
 calm_list_law {f = f} {starts = starts} {item = item} {Calm = Calm} items = record {
   kept = λ ws p e.
       let t = many_law f starts item Calm items (length ws) ws p e in
@@ -146,14 +146,14 @@ calm_list_law {f = f} {starts = starts} {item = item} {Calm = Calm} items = reco
 abbrev pub Nothing : List Word → Type 0
 Nothing ws = Unit {0}
 
-pub list_law : {A : Type 0} {f : A → List Word} {starts : List Word → Bool} {item : Reads A} → Items f starts item Nothing → Law (list_words f) (all_of starts item) (Over starts)
+pub list_law : {A : Type 0} {f : A → List Word} {starts : List Word → Bool} {item : Reading A} → Items f starts item Nothing → Law (list_words f) (all_of starts item) (Over starts)
 list_law {f = f} {starts = starts} {item = item} items = record {
   kept = λ ws p e.
       let t = (calm_list_law items).kept ws p e in
       record { words = t.words; again = λ after h. t.again after (h, tt) };
 }
 
-pub items_of : {A : Type 0} {f : A → List Word} {starts : List Word → Bool} {item : Reads A} → starts [] ≡ false → ((x : A) (after : List Word) → starts (f x ++ after) ≡ true) → Law f item Any → Items f starts item Nothing
+pub items_of : {A : Type 0} {f : A → List Word} {starts : List Word → Bool} {item : Reading A} → starts [] ≡ false → ((x : A) (after : List Word) → starts (f x ++ after) ≡ true) → Law f item Any → Items f starts item Nothing
 items_of none begins law = record {
   none = none;
   easy = λ ws h. tt;

@@ -4,7 +4,7 @@ use Rattle.san_lex.specs.declared.sign.Mark.TheVariants as mark
 use Rattle.san_lex.specs.declared.sign.Sign.TheVariants as sign
 use Rattle.san_lex.specs.Lexer.{Word, Fixed}
 use Rattle.san_text.specs.Words.{is_next, tail}
-use Rattle.san_text.specs.Steps.{Fault, Reads, ◌>>=◌, all_of, gathered, next_mark}
+use Rattle.san_text.specs.Steps.{GrammarFault, Reading, ◌>>=◌, all_of, gathered, next_mark}
 use Rattle.san_text.specs.ActivityWords.{with_commas}
 use Rattle.san_text.proofs.FrontLemmas.{bind_ok, ok_is, then_ok, next_is, next_self}
 use Rattle.san_text.proofs.AlikeLemmas.{alike_is, alike_then, alike_front, alike_parts}
@@ -22,7 +22,7 @@ none_next : next_mark mark.Comma [] ≡ false
 unfolding is_next
 none_next = refl
 
-behind_keeps : {A : Type 0} (f : A → List Word) (r : Reads A) → Law f r Any → (ws : List Word) (p : A × List Word) → next_mark mark.Comma ws ≡ true → r (tail ws) ≡ Ok p → Kept (λ x. comma ∷ f x) (λ us. r (tail us)) (λ was now. Nothing now) ws p
+behind_keeps : {A : Type 0} (f : A → List Word) (r : Reading A) → Law f r Any → (ws : List Word) (p : A × List Word) → next_mark mark.Comma ws ≡ true → r (tail ws) ≡ Ok p → Kept (λ x. comma ∷ f x) (λ us. r (tail us)) (λ was now. Nothing now) ws p
 behind_keeps f r law ws p h e =
     let t = law.kept (tail ws) p e in
     record {
@@ -30,7 +30,7 @@ behind_keeps f r law ws p h e =
       again = λ after k. t.again after tt;
     }
 
-behind_items : {A : Type 0} {f : A → List Word} {r : Reads A} → Law f r Any → Items (λ x. comma ∷ f x) (next_mark mark.Comma) (λ us. r (tail us)) Nothing
+behind_items : {A : Type 0} {f : A → List Word} {r : Reading A} → Law f r Any → Items (λ x. comma ∷ f x) (next_mark mark.Comma) (λ us. r (tail us)) Nothing
 behind_items {f = f} {r = r} law = record {
   none = none_next;
   easy = λ ws h. tt;
@@ -38,11 +38,11 @@ behind_items {f = f} {r = r} law = record {
   keeps = λ ws p s e. behind_keeps f r law ws p s e;
 }
 
-gathered_ok : {A : Type 0} (x : A) (r : Result (List A × List Word) Fault) (p : List A × List Word) → gathered (x ∷ []) r ≡ Ok p → (y : List A × List Word) × (r ≡ Ok y) × ((x ∷ y.0, y.1) ≡ p)
+gathered_ok : {A : Type 0} (x : A) (r : Result (List A × List Word) GrammarFault) (p : List A × List Word) → gathered (x ∷ []) r ≡ Ok p → (y : List A × List Word) × (r ≡ Ok y) × ((x ∷ y.0, y.1) ≡ p)
 gathered_ok x (Ok y) p e = (y, refl, ok_is (x ∷ y.0, y.1) p e)
 gathered_ok x (Err f) p e = absurd cc
 
-pub commas_law : {A : Type 0} {f : A → List Word} {r : Reads A} → Law f r Any → Law (with_commas f) (λ ws. r ws >>= λ x. gathered (x.0 ∷ []) (all_of (next_mark mark.Comma) (λ us. r (tail us)) x.1)) NoComma
+pub commas_law : {A : Type 0} {f : A → List Word} {r : Reading A} → Law f r Any → Law (with_commas f) (λ ws. r ws >>= λ x. gathered (x.0 ∷ []) (all_of (next_mark mark.Comma) (λ us. r (tail us)) x.1)) NoComma
 commas_law {f = f} {r = r} law = record {
   kept = λ ws p e.
       let more = all_of (next_mark mark.Comma) (λ us. r (tail us)) in

@@ -9,7 +9,7 @@ use Rattle.san_text.specs.declared.text.Before.{Before}
 use Rattle.san_text.specs.declared.text.Before.TheVariants as before
 use Rattle.san_text.specs.declared.text.Parsed.{Parsed}
 use Rattle.san_text.specs.declared.text.ParseFault.{ParseFault}
-use Rattle.san_text.specs.Steps.{Fault}
+use Rattle.san_text.specs.Steps.{GrammarFault}
 use Rattle.san_text.specs.Models.{syntax_at}
 use Rattle.san_text.specs.Texts.{is_counted, after_word, spots_after, spots_of, counted_after, words_that_count, words_of, counting_after, counting, start_of, offset_of, parsed_words, parsed_tokens, parsed, Parses}
 use Rattle.san_text.proofs.SyntaxLemmas.{syntax_law}
@@ -38,14 +38,14 @@ pub record Read (text : List ℕ) (x : Parsed) : Type 0 where
   pub read : syntax_at (map word_of found) ≡ Ok (x.syntax, left)
   pub spotted : x.spots ≡ spots_of found
 
-words_read : (text : List ℕ) (found : List Located) (r : Result (Syntax × ℕ) Fault) (x : Parsed) → tokens text ≡ Ok found → syntax_at (map word_of found) ≡ r → parsed_words text found r ≡ Ok x → Read text x
+words_read : (text : List ℕ) (found : List Located) (r : Result (Syntax × ℕ) GrammarFault) (x : Parsed) → tokens text ≡ Ok found → syntax_at (map word_of found) ≡ r → parsed_words text found r ≡ Ok x → Read text x
 words_read text found (Ok y) x lexed is e =
     let made : Parsed = record { syntax = y.0; spots = spots_of found; system = offset_of text found y.1 } in
     let same : made ≡ x = cc in
     record { found = found; lexed = lexed; left = y.1; read = is ∙ ap (λ (z : Parsed). Ok (z.syntax, y.1)) same; spotted = sym (ap (λ (z : Parsed). z.spots) same) }
 words_read text found (Err f) x lexed is e = absurd cc
 
-tokens_read : (text : List ℕ) (r : Result (List Located) lexer.Fault) (x : Parsed) → tokens text ≡ r → parsed_tokens text r ≡ Ok x → Read text x
+tokens_read : (text : List ℕ) (r : Result (List Located) lexer.TokenFault) (x : Parsed) → tokens text ≡ r → parsed_tokens text r ≡ Ok x → Read text x
 tokens_read text (Ok found) x is e = words_read text found (syntax_at (map word_of found)) x is refl e
 tokens_read text (Err f) x is e = absurd cc
 
@@ -53,7 +53,7 @@ pub reading_of : (text : List ℕ) (x : Parsed) → parsed text ≡ Ok x → Rea
 unfolding parsed
 reading_of text x e = tokens_read text (tokens text) x refl e
 
-abbrev lexed_as : List Located → Result (List Located) lexer.Fault
+abbrev lexed_as : List Located → Result (List Located) lexer.TokenFault
 lexed_as ps = Ok ps
 
 same_tokens : (text : List ℕ) (found other : List Located) → tokens text ≡ Ok found → tokens text ≡ Ok other → other ≡ found

@@ -10,22 +10,22 @@ use Rattle.san_lex.specs.Lexer.{Word, Number, Name, Fixed}
 use Rattle.san_text.specs.declared.expression.Begin.TheVariants as begin
 use Rattle.san_text.specs.Words.{Goes, By, Ends, Index, look, at_level, level_of, is_next, tail}
 use Rattle.san_text.proofs.SignLemmas.{sign_is, sign_self}
-use Rattle.san_text.specs.Steps.{Fault, ◌>>=◌}
+use Rattle.san_text.specs.Steps.{GrammarFault, ◌>>=◌}
 use Rattle.san_text.specs.Expressions.{room, beginning}
 
 -- the value of a step that did not fail
-pub bind_ok : {A B : Type 0} (r : Result A Fault) (f : A → Result B Fault) (y : B) → (r >>= f) ≡ Ok y → (x : A) × (r ≡ Ok x) × (f x ≡ Ok y)
+pub bind_ok : {A B : Type 0} (r : Result A GrammarFault) (f : A → Result B GrammarFault) (y : B) → (r >>= f) ≡ Ok y → (x : A) × (r ≡ Ok x) × (f x ≡ Ok y)
 bind_ok (Ok x) f y e = (x, refl, e)
 bind_ok (Err d) f y e = absurd cc
 
-abbrev done : {A : Type 0} → A → Result A Fault
+abbrev done : {A : Type 0} → A → Result A GrammarFault
 done x = Ok x
 
 pub ok_is : {A : Type 0} (x y : A) → done x ≡ done y → x ≡ y
 ok_is x y e = cc
 
 -- a test that held
-pub test_ok : {A : Type 0} (b : Bool) (r : Result A Fault) (d : Fault) (y : A) → cond b r (Err d) ≡ Ok y → (b ≡ true) × (r ≡ Ok y)
+pub test_ok : {A : Type 0} (b : Bool) (r : Result A GrammarFault) (d : GrammarFault) (y : A) → cond b r (Err d) ≡ Ok y → (b ≡ true) × (r ≡ Ok y)
 test_ok true r d y e = (refl, e)
 test_ok false r d y e = absurd cc
 
@@ -71,8 +71,8 @@ level_by level Ends o e = absurd cc
 level_by level Index o e = absurd cc
 level_by level (By p) o e = chosen (nat_eq (level_of p) level) p o e
 
-pub then_ok : {A B : Type 0} (r : Result A Fault) (f : A → Result B Fault) (x : A) (y : B) → r ≡ Ok x → f x ≡ Ok y → (r >>= f) ≡ Ok y
-then_ok r f x y e h = ap (λ (q : Result _ Fault). q >>= f) e ∙ h
+pub then_ok : {A B : Type 0} (r : Result A GrammarFault) (f : A → Result B GrammarFault) (x : A) (y : B) → r ≡ Ok x → f x ≡ Ok y → (r >>= f) ≡ Ok y
+then_ok r f x y e h = ap (λ (q : Result _ GrammarFault). q >>= f) e ∙ h
 
 pub look_front : (us vs ws : List Word) → look vs ≡ look ws → look (us ++ vs) ≡ look (us ++ ws)
 unfolding look

@@ -11,8 +11,8 @@ use Rattle.san_text.specs.declared.syntax.Ast.TheVariants as leaf
 use Rattle.san_text.specs.declared.expression.Begin.{Begin}
 use Rattle.san_text.specs.declared.expression.Begin.TheVariants as begin
 use Rattle.san_text.specs.Words.{Goes, By, Ends, Index, look, at_level, turns_of, is_next, tail, has_arrays}
-use Rattle.san_text.specs.Steps.{Fault, Illegal, Reads, ◌>>=◌}
-use Rattle.san_text.specs.Expressions.{Part, Reader, room, closing, turned, more, chain, levels, indexed, grouped, begun, beginning, unary, expr}
+use Rattle.san_text.specs.Steps.{GrammarFault, Illegal, Reading, ◌>>=◌}
+use Rattle.san_text.specs.Expressions.{PartRead, Reader, room, closing, turned, more, chain, levels, indexed, grouped, begun, beginning, unary, expr}
 use Rattle.san_text.proofs.LocalLemmas.{LocalTo, Local, bind_local, first_local, cond_local, skip_local, illegal_local, long_local, made_local, next_first}
 
 abbrev behind : Ast × ℕ × List Word → List Word
@@ -21,7 +21,7 @@ behind p = p.2
 abbrev set : Ast × ℕ × List Word → List Word → Ast × ℕ × List Word
 set p ws = (p.0, p.1, ws)
 
-abbrev LocalPart : (List Word → Part Ast) → Type 0
+abbrev LocalPart : (List Word → PartRead Ast) → Type 0
 LocalPart r = LocalTo (Ast × ℕ × List Word) behind set r
 
 -- a reader of expressions, with whatever room
@@ -32,7 +32,7 @@ part_done : (x : Ast) (k : ℕ) → LocalPart (λ ws. Ok (x, k, ws))
 part_done x k = made_local (λ ws. (x, k, ws)) (λ ws. refl) (λ ws vs. refl)
 
 -- a word is taken, if there is room
-room_local : {X : Type 0} {rest : X → List Word} {put : X → List Word → X} (q : ℕ → List Word → Result X Fault) → ((j : ℕ) → LocalTo X rest put (q j)) → (k : ℕ) → LocalTo X rest put (λ ws. room k ws >>= λ j. q j ws)
+room_local : {X : Type 0} {rest : X → List Word} {put : X → List Word → X} (q : ℕ → List Word → Result X GrammarFault) → ((j : ℕ) → LocalTo X rest put (q j)) → (k : ℕ) → LocalTo X rest put (λ ws. room k ws >>= λ j. q j ws)
 unfolding room
 room_local q l zero = long_local
 room_local q l (suc k) = l k
@@ -57,7 +57,7 @@ counted_done k = made_local (λ ws. (k, ws)) (λ ws. refl) (λ ws vs. refl)
 closing_local : (s : Sign) (k : ℕ) → Local (λ ws. closing s k ws)
 unfolding closing
 closing_local s k =
-    let yes_reads : Reads ℕ = λ ws. room k ws >>= λ j. Ok (j, tail ws) in
+    let yes_reads : Reading ℕ = λ ws. room k ws >>= λ j. Ok (j, tail ws) in
     first_local (is_next s) (λ c ws. cond c (yes_reads ws) (Err (Illegal (length ws)))) (next_first s)
     (cond_local yes_reads (λ ws. Err (Illegal (length ws))) (room_local (λ j ws. Ok (j, tail ws)) (λ j. skip_local (λ ws. Ok (j, ws)) (counted_done j)) k) illegal_local)
 

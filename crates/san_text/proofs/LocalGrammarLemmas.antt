@@ -24,7 +24,7 @@ use Rattle.san_text.specs.declared.syntax.CaseDecl.{CaseDecl}
 use Rattle.san_text.specs.declared.syntax.DistDecl.{DistDecl}
 use Rattle.san_text.specs.declared.syntax.DistDecl.TheVariants as dist
 use Rattle.san_text.specs.Words.{is_next, tail, name_of, has_arrays, has_priorities}
-use Rattle.san_text.specs.Steps.{Illegal, Deep, Reads, ◌>>=◌, all_of, gathered, next_mark, next_keyword}
+use Rattle.san_text.specs.Steps.{Illegal, Deep, Reading, ◌>>=◌, all_of, gathered, next_mark, next_keyword}
 use Rattle.san_text.specs.Statements.{Body, set_cell, set_plain, set_at, otherwise, if_at, stmt_by, stmt_at, starts_stmt, inner, block}
 use Rattle.san_text.specs.Activities.{length_at, initial_at, place_at, arc_at, function_at, input_arc, gate_at, input_at, starts_input, output_arc, body_at, output_at, starts_output, case_at, weighted_at, plain_at, cases_at, entry_at, more_entry, entries_at, det_at, uniform_at, geom_at, table_at, dist_at, react_at, pair_at, timing_at, timed_at, is_called, priority_at, instant_at, act_at, starts_act}
 use Rattle.san_text.proofs.FrontLemmas.{next_is}
@@ -188,13 +188,13 @@ cases_local version = first_local (next_keyword keyword.Case) (λ c ws. cond c (
 
 -- ---- delays
 
-behind_takes : {A : Type 0} (r : Reads A) → Local r → (ws : List Word) (p : A × List Word) → next_mark mark.Comma ws ≡ true → r (tail ws) ≡ Ok p → length p.1 < length ws
+behind_takes : {A : Type 0} (r : Reading A) → Local r → (ws : List Word) (p : A × List Word) → next_mark mark.Comma ws ≡ true → r (tail ws) ≡ Ok p → length p.1 < length ws
 behind_takes r l ws p s e =
     let front : length ws ≡ suc (length (tail ws)) = ap length (next_is (sign.Mark mark.Comma) ws s) in
     let le : length p.1 ≤ length (tail ws) = l.within (tail ws) p e in
     omega (arith, front, le)
 
-pub commas_local : {A : Type 0} {r : Reads A} → Local r → Local (λ ws. r ws >>= λ x. gathered (x.0 ∷ []) (all_of (next_mark mark.Comma) (λ us. r (tail us)) x.1))
+pub commas_local : {A : Type 0} {r : Reading A} → Local r → Local (λ ws. r ws >>= λ x. gathered (x.0 ∷ []) (all_of (next_mark mark.Comma) (λ us. r (tail us)) x.1))
 commas_local {r = r} l =
     let more : Listed (next_mark mark.Comma) (λ us. r (tail us)) = record { none = no_word (sign.Mark mark.Comma); first = next_first (sign.Mark mark.Comma); eats = behind_takes r l; each = skip_local r l } in
     bind_local r (λ x. gathered (x.0 ∷ []) (all_of (next_mark mark.Comma) (λ us. r (tail us)) x.1)) (λ x. refl) l (λ x. gathered_local (x.0 ∷ []) (all_of (next_mark mark.Comma) (λ us. r (tail us))) (all_local more))

@@ -4,27 +4,27 @@ use Rattle.std.proofs.Common.{◌≡◌, Bool, true, false, cond, ◌&&◌, List
 use Rattle.san_lex.specs.declared.sign.Sign.{Sign}
 use Rattle.san_lex.specs.Lexer.{Word, Fixed}
 use Rattle.san_text.specs.Words.{is_next, tail}
-use Rattle.san_text.specs.Steps.{Illegal, Reads, ◌>>=◌, sign_at}
+use Rattle.san_text.specs.Steps.{Illegal, Reading, ◌>>=◌, sign_at}
 use Rattle.san_text.proofs.FrontLemmas.{bind_ok, ok_is, test_ok, then_ok, next_is, next_self}
 use Rattle.san_text.proofs.AlikeLemmas.{Alike, alike_refl, alike_is, alike_then, alike_front, alike_parts}
 
 -- ---- steps
 
-unfoldable pub seq : {A B : Type 0} → Reads A → (A → Reads B) → Reads B
+unfoldable pub seq : {A B : Type 0} → Reading A → (A → Reading B) → Reading B
 seq r k ws = r ws >>= λ x. k x.0 x.1
 
-unfoldable pub sign_then : {B : Type 0} → Sign → Reads B → Reads B
+unfoldable pub sign_then : {B : Type 0} → Sign → Reading B → Reading B
 sign_then s r ws = sign_at s ws >>= λ vs. r vs
 
-unfoldable pub done : {A : Type 0} → A → Reads A
+unfoldable pub done : {A : Type 0} → A → Reading A
 done x ws = Ok (x, ws)
 
 -- by the sign that stands next
-unfoldable pub choice : {A : Type 0} → Sign → Reads A → Reads A → Reads A
+unfoldable pub choice : {A : Type 0} → Sign → Reading A → Reading A → Reading A
 choice s r q ws = cond (is_next s ws) (r (tail ws)) (q ws)
 
 -- a part that may be missing
-unfoldable pub maybe : {A : Type 0} → (List Word → Bool) → Reads (Option A) → Reads (Option A)
+unfoldable pub maybe : {A : Type 0} → (List Word → Bool) → Reading (Option A) → Reading (Option A)
 maybe test r ws = cond (test ws) (r (tail ws)) (Ok (None, ws))
 
 -- ---- laws
@@ -36,25 +36,25 @@ Follow = List Word → List Word → Type 0
 abbrev pub Any : Follow
 Any was now = Unit {0}
 
-pub record Kept {A : Type 0} (f : A → List Word) (r : Reads A) (ok : Follow) (ws : List Word) (p : A × List Word) : Type 0 where
+pub record Kept {A : Type 0} (f : A → List Word) (r : Reading A) (ok : Follow) (ws : List Word) (p : A × List Word) : Type 0 where
   pub words : Alike ws (f p.0 ++ p.1)
   pub again : (after : List Word) → ok p.1 after → r (f p.0 ++ after) ≡ Ok (p.0, after)
 
-pub record Law {A : Type 0} (f : A → List Word) (r : Reads A) (ok : Follow) : Type 0 where
+pub record Law {A : Type 0} (f : A → List Word) (r : Reading A) (ok : Follow) : Type 0 where
   pub kept : (ws : List Word) (p : A × List Word) → r ws ≡ Ok p → Kept f r ok ws p
 
 -- the same of a reader behind words that were read before: `front` of them and the others is the spelling
-pub record After {A : Type 0} (front : List Word → List Word) (f : A → List Word) (r : Reads A) (ok fits : Follow) (ws : List Word) (p : A × List Word) : Type 0 where
+pub record After {A : Type 0} (front : List Word → List Word) (f : A → List Word) (r : Reading A) (ok fits : Follow) (ws : List Word) (p : A × List Word) : Type 0 where
   pub others : List Word
   pub whole : f p.0 ≡ front others
   pub words : Alike ws (others ++ p.1)
   pub again : (after : List Word) → ok p.1 after → r (others ++ after) ≡ Ok (p.0, after)
   pub meets : (after : List Word) → ok p.1 after → fits ws (others ++ after)
 
-pub record Steps {A : Type 0} (front : List Word → List Word) (f : A → List Word) (r : Reads A) (ok fits : Follow) : Type 0 where
+pub record Steps {A : Type 0} (front : List Word → List Word) (f : A → List Word) (r : Reading A) (ok fits : Follow) : Type 0 where
   pub goes : (ws : List Word) (p : A × List Word) → r ws ≡ Ok p → After front f r ok fits ws p
 
-pub law_of : {A : Type 0} {f : A → List Word} {r : Reads A} {ok : Follow} → Steps (λ us. us) f r ok Any → Law f r ok
+pub law_of : {A : Type 0} {f : A → List Word} {r : Reading A} {ok : Follow} → Steps (λ us. us) f r ok Any → Law f r ok
 law_of {f = f} {r = r} steps = record {
   kept = λ ws p e.
       let t = steps.goes ws p e in
@@ -74,7 +74,7 @@ pub sign_again : (s : Sign) (after : List Word) → sign_at s (Fixed s ∷ after
 unfolding sign_at
 sign_again s after = ap (λ (b : Bool). cond b (Ok after) (Err (Illegal (length (Fixed s ∷ after))))) (next_self s after)
 
-pub sign_step : {A : Type 0} {front : List Word → List Word} {f : A → List Word} {r : Reads A} {ok fits : Follow} (s : Sign)
+pub sign_step : {A : Type 0} {front : List Word → List Word} {f : A → List Word} {r : Reading A} {ok fits : Follow} (s : Sign)
     → ((a b : List Word) → fits (Fixed s ∷ a) (Fixed s ∷ b)) → Steps (λ us. front (Fixed s ∷ us)) f r ok Any → Steps front f (sign_then s r) ok fits
 unfolding sign_then
 sign_step {r = r} {fits = fits} s meets rest = record {
@@ -92,7 +92,7 @@ sign_step {r = r} {fits = fits} s meets rest = record {
 }
 
 -- one reader, then another; `through` tells of the words before which the first one's spelling now stands
-pub seq_through : {A B : Type 0} {front : List Word → List Word} {g : A → List Word} {f : B → List Word} {r : Reads A} {k : A → Reads B} {ok one fits more : Follow}
+pub seq_through : {A B : Type 0} {front : List Word → List Word} {g : A → List Word} {f : B → List Word} {r : Reading A} {k : A → Reading B} {ok one fits more : Follow}
     → Law g r one → ((ws : List Word) (a : A) (us vs : List Word) → r ws ≡ Ok (a, us) → more us vs → fits ws (g a ++ vs))
     → ((a : A) → Steps (λ us. front (g a ++ us)) f (k a) ok (λ us vs. one us vs × more us vs)) → Steps front f (seq r k) ok fits
 unfolding seq
@@ -112,14 +112,14 @@ seq_through {g = g} {r = r} {k = k} {fits = fits} law through rest = record {
       };
 }
 
-pub weaken : {A : Type 0} {front : List Word → List Word} {f : A → List Word} {r : Reads A} {ok one two : Follow} → ((a b : List Word) → one a b → two a b) → Steps front f r ok one → Steps front f r ok two
+pub weaken : {A : Type 0} {front : List Word → List Word} {f : A → List Word} {r : Reading A} {ok one two : Follow} → ((a b : List Word) → one a b → two a b) → Steps front f r ok one → Steps front f r ok two
 weaken weak steps = record {
   goes = λ ws p e.
       let t = steps.goes ws p e in
       record { others = t.others; whole = t.whole; words = t.words; again = t.again; meets = λ after h. weak ws (t.others ++ after) (t.meets after h) };
 }
 
-pub seq_step : {A B : Type 0} {front : List Word → List Word} {g : A → List Word} {f : B → List Word} {r : Reads A} {k : A → Reads B} {ok one : Follow}
+pub seq_step : {A B : Type 0} {front : List Word → List Word} {g : A → List Word} {f : B → List Word} {r : Reading A} {k : A → Reading B} {ok one : Follow}
     → Law g r one → ((a : A) → Steps (λ us. front (g a ++ us)) f (k a) ok one) → Steps front f (seq r k) ok Any
 seq_step {ok = ok} {one = one} law rest = seq_through {more = Any} law (λ ws a us vs e h. tt) (λ a. weaken {one = one} {two = λ us vs. one us vs × Any us vs} (λ us vs h. (h, tt)) (rest a))
 
@@ -134,7 +134,7 @@ done_step {front = front} {f = f} {ok = ok} {fits = fits} x weak whole = record 
 abbrev Missing : (List Word → Bool) → Follow
 Missing test was now = test now ≡ false
 
-maybe_by : {A : Type 0} (f : Option A → List Word) (r : Reads (Option A)) (w : Word) (test : List Word → Bool)
+maybe_by : {A : Type 0} (f : Option A → List Word) (r : Reading (Option A)) (w : Word) (test : List Word → Bool)
     → ((ws : List Word) → test ws ≡ true → (ws ≡ w ∷ tail ws) × ((after : List Word) → test (w ∷ after) ≡ true)) → f None ≡ [] → Steps (λ us. w ∷ us) f r Any Any
     → (b : Bool) (ws : List Word) (p : Option A × List Word) → test ws ≡ b → cond b (r (tail ws)) (Ok (None, ws)) ≡ Ok p → Kept f (maybe test r) (Missing test) ws p
 unfolding maybe
@@ -154,12 +154,12 @@ maybe_by f r w test is none steps false ws p h e =
     })
 
 -- a part that may be missing: `test` is whether it comes next, and `w` its first word
-pub maybe_law : {A : Type 0} {f : Option A → List Word} {r : Reads (Option A)} {w : Word} (test : List Word → Bool)
+pub maybe_law : {A : Type 0} {f : Option A → List Word} {r : Reading (Option A)} {w : Word} (test : List Word → Bool)
     → ((ws : List Word) → test ws ≡ true → (ws ≡ w ∷ tail ws) × ((after : List Word) → test (w ∷ after) ≡ true)) → f None ≡ [] → Steps (λ us. w ∷ us) f r Any Any → Law f (maybe test r) (λ was now. test now ≡ false)
 unfolding maybe
 maybe_law {f = f} {r = r} {w = w} test is none steps = record { kept = λ ws p e. maybe_by f r w test is none steps (test ws) ws p refl e }
 
-choice_by : {A : Type 0} (front : List Word → List Word) (f : A → List Word) (s : Sign) (r q : Reads A) (ok fits : Follow)
+choice_by : {A : Type 0} (front : List Word → List Word) (f : A → List Word) (s : Sign) (r q : Reading A) (ok fits : Follow)
     → ((a b : List Word) → fits (Fixed s ∷ a) (Fixed s ∷ b)) → Steps (λ us. front (Fixed s ∷ us)) f r ok Any → Steps front f q ok (λ was now. (is_next s now ≡ false) × fits was now)
     → (b : Bool) (ws : List Word) (p : A × List Word) → is_next s ws ≡ b → cond b (r (tail ws)) (q ws) ≡ Ok p → After front f (choice s r q) ok fits ws p
 unfolding choice
@@ -183,13 +183,13 @@ choice_by front f s r q ok fits meets one other false ws p h e =
       meets = λ after k. (t.meets after k).1;
     }
 
-pub choice_step : {A : Type 0} {front : List Word → List Word} {f : A → List Word} {r q : Reads A} {ok fits : Follow} (s : Sign)
+pub choice_step : {A : Type 0} {front : List Word → List Word} {f : A → List Word} {r q : Reading A} {ok fits : Follow} (s : Sign)
     → ((a b : List Word) → fits (Fixed s ∷ a) (Fixed s ∷ b)) → Steps (λ us. front (Fixed s ∷ us)) f r ok Any → Steps front f q ok (λ was now. (is_next s now ≡ false) × fits was now) → Steps front f (choice s r q) ok fits
 unfolding choice
 choice_step {front = front} {f = f} {r = r} {q = q} {ok = ok} {fits = fits} s meets one other = record { goes = λ ws p e. choice_by front f s r q ok fits meets one other (is_next s ws) ws p refl e }
 
 -- a reader that ends with another
-pub last_step : {A : Type 0} {front : List Word → List Word} {g : A → List Word} {f : A → List Word} {r : Reads A} {ok : Follow} → Law g r ok → ((a : A) → f a ≡ front (g a)) → Steps front f r ok Any
+pub last_step : {A : Type 0} {front : List Word → List Word} {g : A → List Word} {f : A → List Word} {r : Reading A} {ok : Follow} → Law g r ok → ((a : A) → f a ≡ front (g a)) → Steps front f r ok Any
 last_step {g = g} law whole = record {
   goes = λ ws p e.
       let t = law.kept ws p e in
@@ -197,10 +197,10 @@ last_step {g = g} law whole = record {
 }
 
 -- by the sign that stands next, where it may stand at all: neither reader takes it before
-unfoldable pub guarded : {A : Type 0} → Bool → Sign → Reads A → Reads A → Reads A
+unfoldable pub guarded : {A : Type 0} → Bool → Sign → Reading A → Reading A → Reading A
 guarded b s r q ws = cond (b && is_next s ws) (r ws) (q ws)
 
-guarded_by : {A : Type 0} (front : List Word → List Word) (f : A → List Word) (g : Bool) (s : Sign) (r q : Reads A) (ok : Follow)
+guarded_by : {A : Type 0} (front : List Word → List Word) (f : A → List Word) (g : Bool) (s : Sign) (r q : Reading A) (ok : Follow)
     → Steps front f r ok (λ was now. is_next s now ≡ true) → Steps front f q ok (λ was now. is_next s now ≡ false)
     → (b : Bool) (ws : List Word) (p : A × List Word) → (g && is_next s ws) ≡ b → cond b (r ws) (q ws) ≡ Ok p → After front f (guarded g s r q) ok Any ws p
 unfolding guarded
@@ -215,7 +215,7 @@ guarded_by front f false s r q ok one other false ws p h e =
     let t = other.goes ws p e in
     record { others = t.others; whole = t.whole; words = t.words; again = t.again; meets = λ after k. tt }
 
-pub guarded_step : {A : Type 0} {front : List Word → List Word} {f : A → List Word} {r q : Reads A} {ok : Follow} (g : Bool) (s : Sign)
+pub guarded_step : {A : Type 0} {front : List Word → List Word} {f : A → List Word} {r q : Reading A} {ok : Follow} (g : Bool) (s : Sign)
     → Steps front f r ok (λ was now. is_next s now ≡ true) → Steps front f q ok (λ was now. is_next s now ≡ false) → Steps front f (guarded g s r q) ok Any
 unfolding guarded
 guarded_step {front = front} {f = f} {r = r} {q = q} {ok = ok} g s one other = record { goes = λ ws p e. guarded_by front f g s r q ok one other (g && is_next s ws) ws p refl e }

@@ -12,11 +12,11 @@ use Rattle.san_text.specs.declared.syntax.StmtDecl.TheVariants as plain
 use Rattle.san_text.specs.declared.syntax.StmtDecl.TheOpen.{StmtDecl-F}
 use Rattle.san_text.specs.declared.syntax.StmtDecl.TheFolds.{fold-roll-StmtDecl}
 use Rattle.san_text.specs.Words.{look, is_next, tail, name_of, has_arrays}
-use Rattle.san_text.specs.Steps.{Illegal, Deep, Fault, ◌>>=◌, sign_at}
+use Rattle.san_text.specs.Steps.{Illegal, Deep, GrammarFault, ◌>>=◌, sign_at}
 use Rattle.san_text.specs.Expressions.{expr}
 use Rattle.san_text.specs.Statements.{Body, set_cell, set_plain, set_at, otherwise, if_at, stmt_by, stmt_at, starts_stmt, inner, block}
 use Rattle.san_text.specs.Spelling.{spelling, else_words, stmt_step, stmt_words, stmts_words, body_words}
-use Rattle.san_text.proofs.FrontLemmas.{bind_ok, ok_is, then_ok, next_is, next_self}
+use Rattle.san_text.proofs.FrontLemmas.{bind_ok, ok_is, then_ok, next_is, next_self, test_ok}
 use Rattle.san_text.proofs.AlikeLemmas.{Alike, alike_refl, alike_is, alike_then, alike_front, alike_closed}
 use Rattle.san_text.proofs.StepLemmas.{guarded, seq, sign_then, done, Any, Kept, Law, Steps, law_of, signed, sign_step, seq_step, done_step, guarded_step}
 use Rattle.san_text.proofs.BasicLemmas.{expr_keeps, Items, calm_list_law}
@@ -185,15 +185,11 @@ if_law version body law ws p is e =
       begins = λ after. ap starts_stmt (regroup after) ∙ if_starts (X ++ (B ++ (E ++ after)));
     }
 
-tested : {A : Type 0} (b : Bool) (r : Result A Fault) (d : Fault) (y : A) → cond b r (Err d) ≡ Ok y → (b ≡ true) × (r ≡ Ok y)
-tested true r d y e = (refl, e)
-tested false r d y e = absurd cc
-
 stated : (version : ℕ) (body : Body) → Blocks body → (o : Option (List ℕ)) (ws : List Word) (p : StmtDecl × List Word) → name_of ws ≡ o → stmt_by version body o ws ≡ Ok p → Stated version body ws p
 unfolding stmt_by
 stated version body law (Some s) ws p is e = set_law version body s ws p is e
 stated version body law None ws p is e =
-    let t = tested (is_next (sign.Keyword keyword.If) ws) (if_at version body (tail ws)) (Illegal (length ws)) p e in
+    let t = test_ok (is_next (sign.Keyword keyword.If) ws) (if_at version body (tail ws)) (Illegal (length ws)) p e in
     if_law version body law ws p (next_is (sign.Keyword keyword.If) ws t.0) t.1
 
 pub none_starts : starts_stmt [] ≡ false
@@ -213,7 +209,7 @@ inner_steps : (version : ℕ) (body : Body) → Blocks body → Steps (λ us. Fi
 unfolding inner seq sign_then done starts_stmt name_of is_next
 inner_steps version body law = seq_step (calm_list_law (stmt_items version body law)) (λ xs. sign_step (sign.Mark mark.CloseBrace) (λ a b. (refl, refl)) (done_step (xs) (λ a b h. h) refl))
 
-two_faults : {A : Type 0} (b : Bool) (d f : Fault) (y : A) → (r : Result A Fault) → r ≡ cond b (Err d) (Err f) → r ≡ Ok y → ⊥
+two_faults : {A : Type 0} (b : Bool) (d f : GrammarFault) (y : A) → (r : Result A GrammarFault) → r ≡ cond b (Err d) (Err f) → r ≡ Ok y → ⊥
 two_faults true d f y r h e = cc
 two_faults false d f y r h e = cc
 

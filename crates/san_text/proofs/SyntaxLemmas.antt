@@ -11,7 +11,7 @@ use Rattle.san_text.specs.declared.syntax.Syntax.{Syntax}
 use Rattle.san_text.specs.declared.syntax.ModelDecl.{ModelDecl}
 use Rattle.san_text.specs.declared.syntax.RewardDecl.{RewardDecl}
 use Rattle.san_text.specs.Words.{is_next, name_of}
-use Rattle.san_text.specs.Steps.{Fault, Illegal, Version, ◌>>=◌, sign_at, name_at, number_at, all_of, next_keyword}
+use Rattle.san_text.specs.Steps.{GrammarFault, Illegal, Version, ◌>>=◌, sign_at, name_at, number_at, all_of, next_keyword}
 use Rattle.san_text.specs.Models.{model_at, starts_model, reward_at, version_at, head_at, system_at, ended, syntax_at}
 use Rattle.san_text.specs.ModelWords.{model_words, reward_words, head_words, system_words, syntax_words}
 use Rattle.san_text.proofs.FrontLemmas.{bind_ok, ok_is, then_ok, test_ok}
@@ -104,7 +104,7 @@ pub record Whole (ws : List Word) (x : Syntax × ℕ) : Type 0 where
 pub syntax_law : (ws : List Word) (x : Syntax × ℕ) → syntax_at ws ≡ Ok x → Whole ws x
 unfolding syntax_at syntax_words
 syntax_law ws x e =
-    let last = λ (v : ℕ) (ms : List ModelDecl) (s : List ℕ × ℕ) (rs : List RewardDecl) (e : ℕ). let r : Result (Syntax × ℕ) Fault = Ok (made v ms s.0 rs, s.1) in r in
+    let last = λ (v : ℕ) (ms : List ModelDecl) (s : List ℕ × ℕ) (rs : List RewardDecl) (e : ℕ). let r : Result (Syntax × ℕ) GrammarFault = Ok (made v ms s.0 rs, s.1) in r in
     let a = bind_ok (head_at ws) (λ v. all_of starts_model (model_at v.0) v.1 >>= λ m. system_at m.1 >>= λ s. all_of (next_keyword keyword.Reward) (reward_at v.0) s.1 >>= λ r. ended r.1 >>= λ e. last v.0 m.0 s.0 r.0 e) x e in
     let v : ℕ = a.0.0 in
     let b = bind_ok (all_of starts_model (model_at v) a.0.1) (λ m. system_at m.1 >>= λ s. all_of (next_keyword keyword.Reward) (reward_at v) s.1 >>= λ r. ended r.1 >>= λ e. last v m.0 s.0 r.0 e) x a.2 in

@@ -14,26 +14,26 @@ use Rattle.san_text.specs.declared.expression.Begin.{Begin}
 use Rattle.san_text.specs.declared.expression.Begin.TheVariants as begin
 use Rattle.san_text.specs.declared.limits.TheConstants.{LOOSEST_LEVEL, EXPRESSION_DEPTH, MAX_EXPRESSION_WORDS}
 use Rattle.san_text.specs.Words.{Goes, By, Ends, Index, look, at_level, turns_of, is_next, tail, has_arrays}
-use Rattle.san_text.specs.Steps.{Fault, Illegal, Long, Reads, ◌>>=◌}
+use Rattle.san_text.specs.Steps.{GrammarFault, Illegal, Long, Reading, ◌>>=◌}
 
 -- what was read inside an expression, how many words it may still take, and the words after it
-abbrev pub Part : Type 0 → Type 0
-Part A = Result (A × ℕ × List Word) Fault
+abbrev pub PartRead : Type 0 → Type 0
+PartRead A = Result (A × ℕ × List Word) GrammarFault
 
 abbrev pub Reader : Type 0
-Reader = ℕ → List Word → Part Ast
+Reader = ℕ → List Word → PartRead Ast
 
 -- a legal word is taken, if the expression has room for it
-unfoldable pub room : ℕ → List Word → Result ℕ Fault
+unfoldable pub room : ℕ → List Word → Result ℕ GrammarFault
 room zero ws = Err (Long (length ws))
 room (suc k) ws = Ok k
 
 -- one sign inside an expression
-unfoldable pub closing : Sign → ℕ → List Word → Result (ℕ × List Word) Fault
+unfoldable pub closing : Sign → ℕ → List Word → Result (ℕ × List Word) GrammarFault
 closing s k ws = cond (is_next s ws) (room k ws >>= λ j. Ok (j, tail ws)) (Err (Illegal (length ws)))
 
 -- an operator, if there is one, its right operand, and what next makes of both
-unfoldable pub turned : Option Op → Ast → ℕ → List Word → Reader → (Ast → Reader) → Part Ast
+unfoldable pub turned : Option Op → Ast → ℕ → List Word → Reader → (Ast → Reader) → PartRead Ast
 turned None left k ws go next = Ok (left, k, ws)
 turned (Some o) left k ws go next = room k ws >>= λ j. go j (tail ws) >>= λ x. next (ast.Binary o left x.0) x.1 x.2
 
@@ -97,5 +97,5 @@ unary version zero k ws = Err (Long (length ws))
 unary version (suc n) k ws = begun (has_arrays version) (beginning ws) (unary version n) (levels LOOSEST_LEVEL (unary version n)) k ws
 
 -- expr; each sign and bracket takes a word, so its depth is never used up
-unfoldable pub expr : ℕ → Reads Ast
+unfoldable pub expr : ℕ → Reading Ast
 expr version ws = levels LOOSEST_LEVEL (unary version EXPRESSION_DEPTH) MAX_EXPRESSION_WORDS ws >>= λ x. Ok (x.0, x.2)

@@ -14,7 +14,7 @@ use Rattle.san_text.specs.declared.text.Before.{Before}
 use Rattle.san_text.specs.declared.text.Before.TheVariants as before
 use Rattle.san_text.specs.declared.text.ParseFault.{ParseFault}
 use Rattle.san_text.specs.declared.text.ParseFault.TheVariants as error
-use Rattle.san_text.specs.Steps.{Fault, Illegal, Deep, Long, Version}
+use Rattle.san_text.specs.Steps.{GrammarFault, Illegal, Deep, Long, Version}
 use Rattle.san_text.specs.Models.{syntax_at}
 use Rattle.san_text.specs.ModelWords.{syntax_words}
 
@@ -99,22 +99,22 @@ counting ps = counting_after before.Other ps
 abbrev pub start_of : Located → ℕ
 start_of p = p.start
 
-abbrev pub lex_refusal : List ℕ → lexer.Fault → Refusal
+abbrev pub lex_refusal : List ℕ → lexer.TokenFault → Refusal
 lex_refusal text (lexer.Bad at) = refused BAD_BYTE text at
 lex_refusal text (lexer.Large at) = refused NUMBER_TOO_LARGE text at
 lex_refusal text (lexer.Long at) = refused NAME_TOO_LONG text at
 
-abbrev pub read_refusal : List ℕ → List Located → Fault → Refusal
+abbrev pub read_refusal : List ℕ → List Located → GrammarFault → Refusal
 read_refusal text ps (Illegal left) = refused ILLEGAL_TOKEN text (offset_of text ps left)
 read_refusal text ps (Deep left) = refused TOO_MANY_BRACES text (offset_of text ps left)
 read_refusal text ps (Long left) = refused EXPRESSION_TOO_LONG text (offset_of text ps left)
 read_refusal text ps (Version left) = refused UNKNOWN_VERSION text (offset_of text ps left)
 
-abbrev pub parsed_words : List ℕ → List Located → Result (Syntax × ℕ) Fault → Result Parsed Refusal
+abbrev pub parsed_words : List ℕ → List Located → Result (Syntax × ℕ) GrammarFault → Result Parsed Refusal
 parsed_words text ps (Ok x) = Ok (record { syntax = x.0; spots = spots_of ps; system = offset_of text ps x.1 })
 parsed_words text ps (Err f) = Err (read_refusal text ps f)
 
-abbrev pub parsed_tokens : List ℕ → Result (List Located) lexer.Fault → Result Parsed Refusal
+abbrev pub parsed_tokens : List ℕ → Result (List Located) lexer.TokenFault → Result Parsed Refusal
 parsed_tokens text (Ok ps) = parsed_words text ps (syntax_at (map word_of ps))
 parsed_tokens text (Err f) = Err (lex_refusal text f)
 

@@ -3,7 +3,7 @@
 ghost use Rattle.std.specs.Prelude.{◌≡◌};
 ghost use Rattle.san_text.specs.Words.{has_priorities};
 ghost use Rattle.san_text.specs.Activities.{timed_at, priority_at, instant_at, act_at, starts_act};
-ghost use Rattle.san_text.specs.inner.Answers.{Gives};
+ghost use Rattle.san_text.specs.inner.Answers.{GivesRead};
 
 use crate::delay::timing_at;
 use crate::limits::{ACTIVITY_BRACES, PRIORITIES_VERSION};
@@ -16,7 +16,7 @@ use std::alloc::Global;
 
 #[tactic(auto, unfolding(crate::specs::Activities::timed_at))]
 fn timed_at<'a>(alloc: Global, version: u64, words: Words<'a>) -> Read<'a, ActDecl>
-    ensures { Gives result (timed_at version words.entry) }
+    ensures { GivesRead result (timed_at version words.entry) }
 {
     let (name, words) = name_at(alloc, words)?;
     let words = mark_at(Mark::OpenBrace, words)?;
@@ -44,7 +44,7 @@ fn has_priorities(version: u64) -> bool
 
 #[tactic(auto, unfolding(crate::specs::Activities::priority_at))]
 fn priority_at<'a>(version: u64, words: Words<'a>) -> Read<'a, Option<u64>>
-    ensures { Gives result (priority_at version words.entry) }
+    ensures { GivesRead result (priority_at version words.entry) }
 {
     if has_priorities(version) && words.is_called(b"priority") {
         let (priority, words) = number_at(words.tail())?;
@@ -56,7 +56,7 @@ fn priority_at<'a>(version: u64, words: Words<'a>) -> Read<'a, Option<u64>>
 
 #[tactic(auto, unfolding(crate::specs::Activities::instant_at))]
 fn instant_at<'a>(alloc: Global, version: u64, words: Words<'a>) -> Read<'a, ActDecl>
-    ensures { Gives result (instant_at version words.entry) }
+    ensures { GivesRead result (instant_at version words.entry) }
 {
     let words = keyword_at(Keyword::Instant, words)?;
     let (name, words) = name_at(alloc, words)?;
@@ -79,7 +79,7 @@ fn instant_at<'a>(alloc: Global, version: u64, words: Words<'a>) -> Read<'a, Act
 
 #[tactic(auto, unfolding(crate::specs::Activities::act_at))]
 fn act_at<'a>(alloc: Global, version: u64, words: Words<'a>) -> Read<'a, ActDecl>
-    ensures { Gives result (act_at version words.entry) }
+    ensures { GivesRead result (act_at version words.entry) }
 {
     if next_keyword(&words, Keyword::Timed) {
         timed_at(alloc, version, words.tail())

@@ -4,7 +4,7 @@ ghost use Rattle.std.specs.Prelude.{◌≡◌};
 ghost use Rattle.san_lex.specs.declared.sign.Mark.TheVariants.{Comma as CommaMark};
 ghost use Rattle.san_text.specs.Steps.{next_mark, next_keyword};
 ghost use Rattle.san_text.specs.Activities.{entry_at, more_entry, entries_at, det_at, uniform_at, geom_at, table_at, dist_at, react_at, pair_at, timing_at};
-ghost use Rattle.san_text.specs.inner.Answers.{Gives};
+ghost use Rattle.san_text.specs.inner.Answers.{GivesRead};
 
 use crate::expression::expr;
 use crate::limits::ACTIVITY_BRACES;
@@ -17,7 +17,7 @@ use std::alloc::Global;
 
 #[tactic(auto, unfolding(crate::specs::Activities::entry_at))]
 fn entry_at<'a>(words: Words<'a>) -> Read<'a, (u64, u64)>
-    ensures { Gives result (entry_at words.entry) }
+    ensures { GivesRead result (entry_at words.entry) }
 {
     let (delay, words) = number_at(words)?;
     let words = mark_at(Mark::Colon, words)?;
@@ -27,7 +27,7 @@ fn entry_at<'a>(words: Words<'a>) -> Read<'a, (u64, u64)>
 
 #[tactic(auto, unfolding(crate::specs::Activities::more_entry))]
 fn more_entry<'a>(words: Words<'a>) -> Read<'a, (u64, u64)>
-    ensures { Gives result (more_entry words.entry) }
+    ensures { GivesRead result (more_entry words.entry) }
 {
     entry_at(words.tail())
 }
@@ -54,7 +54,7 @@ impl Item for (u64, u64) {
 
 #[tactic(auto, unfolding(crate::specs::Activities::entries_at))]
 fn entries_at<'a>(alloc: Global, version: u64, words: Words<'a>) -> Read<'a, Items<(u64, u64)>>
-    ensures { Gives result (entries_at words.entry) }
+    ensures { GivesRead result (entries_at words.entry) }
 {
     let (first, words) = entry_at(words)?;
     one_and(alloc, version, ACTIVITY_BRACES, first, words)
@@ -62,7 +62,7 @@ fn entries_at<'a>(alloc: Global, version: u64, words: Words<'a>) -> Read<'a, Ite
 
 #[tactic(auto, unfolding(crate::specs::Activities::det_at))]
 fn det_at<'a>(alloc: Global, version: u64, words: Words<'a>) -> Read<'a, DistDecl>
-    ensures { Gives result (det_at version words.entry) }
+    ensures { GivesRead result (det_at version words.entry) }
 {
     let (ticks, words) = expr(alloc, version, words)?;
     Ok((DistDecl::Det(ticks), words))
@@ -70,7 +70,7 @@ fn det_at<'a>(alloc: Global, version: u64, words: Words<'a>) -> Read<'a, DistDec
 
 #[tactic(auto, unfolding(crate::specs::Activities::uniform_at))]
 fn uniform_at<'a>(alloc: Global, version: u64, words: Words<'a>) -> Read<'a, DistDecl>
-    ensures { Gives result (uniform_at version words.entry) }
+    ensures { GivesRead result (uniform_at version words.entry) }
 {
     let (least, words) = expr(alloc, version, words)?;
     let words = mark_at(Mark::Comma, words)?;
@@ -80,7 +80,7 @@ fn uniform_at<'a>(alloc: Global, version: u64, words: Words<'a>) -> Read<'a, Dis
 
 #[tactic(auto, unfolding(crate::specs::Activities::geom_at))]
 fn geom_at<'a>(words: Words<'a>) -> Read<'a, DistDecl>
-    ensures { Gives result (geom_at words.entry) }
+    ensures { GivesRead result (geom_at words.entry) }
 {
     let (hits, words) = number_at(words)?;
     let (tries, words) = number_at(words)?;
@@ -89,7 +89,7 @@ fn geom_at<'a>(words: Words<'a>) -> Read<'a, DistDecl>
 
 #[tactic(auto, unfolding(crate::specs::Activities::table_at))]
 fn table_at<'a>(alloc: Global, version: u64, words: Words<'a>) -> Read<'a, DistDecl>
-    ensures { Gives result (table_at words.entry) }
+    ensures { GivesRead result (table_at words.entry) }
 {
     let words = keyword_at(Keyword::Table, words)?;
     let (entries, words) = entries_at(alloc, version, words)?;
@@ -98,7 +98,7 @@ fn table_at<'a>(alloc: Global, version: u64, words: Words<'a>) -> Read<'a, DistD
 
 #[tactic(auto, unfolding(crate::specs::Activities::dist_at))]
 fn dist_at<'a>(alloc: Global, version: u64, words: Words<'a>) -> Read<'a, DistDecl>
-    ensures { Gives result (dist_at version words.entry) }
+    ensures { GivesRead result (dist_at version words.entry) }
 {
     if next_keyword(&words, Keyword::Det) {
         det_at(alloc, version, words.tail())
@@ -113,7 +113,7 @@ fn dist_at<'a>(alloc: Global, version: u64, words: Words<'a>) -> Read<'a, DistDe
 
 #[tactic(auto, unfolding(crate::specs::Activities::react_at))]
 fn react_at<'a>(alloc: Global, version: u64, words: Words<'a>) -> Read<'a, (Ast, Ast)>
-    ensures { Gives result (react_at version words.entry) }
+    ensures { GivesRead result (react_at version words.entry) }
 {
     let (activation, words) = expr(alloc, version, words)?;
     let words = mark_at(Mark::Comma, words)?;
@@ -124,7 +124,7 @@ fn react_at<'a>(alloc: Global, version: u64, words: Words<'a>) -> Read<'a, (Ast,
 
 #[tactic(auto, unfolding(crate::specs::Activities::pair_at))]
 fn pair_at<'a>(alloc: Global, version: u64, words: Words<'a>) -> Read<'a, Option<(Ast, Ast)>>
-    ensures { Gives result (pair_at version words.entry) }
+    ensures { GivesRead result (pair_at version words.entry) }
 {
     if next_keyword(&words, Keyword::React) {
         let (pair, words) = react_at(alloc, version, words.tail())?;
@@ -136,7 +136,7 @@ fn pair_at<'a>(alloc: Global, version: u64, words: Words<'a>) -> Read<'a, Option
 
 #[tactic(auto, unfolding(crate::specs::Activities::timing_at))]
 pub(crate) fn timing_at<'a>(alloc: Global, version: u64, words: Words<'a>) -> Read<'a, Timing>
-    ensures { Gives result (timing_at version words.entry) }
+    ensures { GivesRead result (timing_at version words.entry) }
 {
     let words = keyword_at(Keyword::Delay, words)?;
     let (delay, words) = dist_at(alloc, version, words)?;

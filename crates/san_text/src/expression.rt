@@ -3,7 +3,7 @@
 ghost use Rattle.std.specs.Prelude.{◌≡◌, ◌-◌, ◌<◌, length, ℕ};
 ghost use Rattle.san_text.specs.Words.{look, turns_of, tail, has_arrays};
 ghost use Rattle.san_text.specs.Expressions.{room, closing, more, levels, indexed, grouped, beginning, unary, expr};
-ghost use Rattle.san_text.specs.inner.Answers.{Gives, Kept};
+ghost use Rattle.san_text.specs.inner.Answers.{GivesRead, Kept};
 
 use crate::limits::{
     ARRAYS_VERSION, COMPARISON_LEVEL, EXPRESSION_DEPTH, LOOSEST_LEVEL, MAX_EXPRESSION_WORDS,
@@ -58,7 +58,7 @@ pub(crate) fn has_arrays(version: u64) -> bool
 
 #[tactic(auto, unfolding(crate::specs::Expressions::room))]
 fn room(left: u32, words: &Words<'_>) -> Result<u32, ReadError>
-    ensures { Gives result (room left words.now) }
+    ensures { GivesRead result (room left words.now) }
 {
     if left == 0 {
         Err(ReadError::Long(words.len()))
@@ -69,7 +69,7 @@ fn room(left: u32, words: &Words<'_>) -> Result<u32, ReadError>
 
 #[tactic(auto, unfolding(crate::specs::Expressions::closing))]
 fn closing<'a>(sign: Sign, left: u32, words: Words<'a>) -> Result<(u32, Words<'a>), ReadError>
-    ensures { Gives result (closing sign left words.entry) }
+    ensures { GivesRead result (closing sign left words.entry) }
 {
     if words.is_next(sign) {
         let left = room(left, &words)?;
@@ -83,7 +83,7 @@ fn closing<'a>(sign: Sign, left: u32, words: Words<'a>) -> Result<(u32, Words<'a
 #[cycle(reading)]
 #[tactic(auto, unfolding(crate::specs::Expressions::unary, crate::specs::Expressions::begun))]
 fn unary<'a>(alloc: Global, version: u64, left: u32, words: Words<'a>, depth: u32) -> Part<'a>
-    ensures { Gives result (unary version depth left words.entry) }
+    ensures { GivesRead result (unary version depth left words.entry) }
 {
     if depth == 0 {
         return Err(ReadError::Long(words.len()));
@@ -119,7 +119,7 @@ fn unary<'a>(alloc: Global, version: u64, left: u32, words: Words<'a>, depth: u3
 #[cycle(reading)]
 #[tactic(auto, unfolding(crate::specs::Expressions::grouped))]
 fn grouped<'a>(alloc: Global, version: u64, left: u32, words: Words<'a>, depth: u32) -> Part<'a>
-    ensures { Gives result (grouped (levels LOOSEST_LEVEL (unary version depth)) left words.entry) }
+    ensures { GivesRead result (grouped (levels LOOSEST_LEVEL (unary version depth)) left words.entry) }
 {
     let (x, left, words) = level(alloc, version, left, words, depth, LOOSEST_LEVEL)?;
     let (left, words) = closing(Sign::Mark(Mark::CloseParen), left, words)?;
@@ -137,7 +137,7 @@ fn called<'a>(
     words: Words<'a>,
     depth: u32,
 ) -> Part<'a>
-    ensures { Gives result (indexed (has_arrays version) (look words.entry) name (levels
+    ensures { GivesRead result (indexed (has_arrays version) (look words.entry) name (levels
         LOOSEST_LEVEL (unary version depth)) left words.entry) }
 {
     if !has_arrays(version) || !words.index_next() {
@@ -160,7 +160,7 @@ fn level<'a>(
     depth: u32,
     level: u32,
 ) -> Part<'a>
-    ensures { Gives result (levels level (unary version depth) left words.entry) }
+    ensures { GivesRead result (levels level (unary version depth) left words.entry) }
 {
     if level == 0 {
         return unary(alloc, version, left, words, depth);
@@ -181,7 +181,7 @@ fn more<'a>(
     turns: u32,
 ) -> Part<'a>
     requires { 0 < level }
-    ensures { Gives result (more turns level (levels (level - 1) (unary version depth))
+    ensures { GivesRead result (more turns level (levels (level - 1) (unary version depth))
         first.entry.0 first.entry.1 first.entry.2) }
 {
     let (x, left, words) = first;
@@ -209,7 +209,7 @@ fn more<'a>(
 /// An expression.
 #[tactic(auto, unfolding(crate::specs::Expressions::expr))]
 pub(crate) fn expr<'a>(alloc: Global, version: u64, words: Words<'a>) -> Read<'a, Ast>
-    ensures { Gives result (expr version words.entry) }
+    ensures { GivesRead result (expr version words.entry) }
 {
     let (x, _, words) = level(
         alloc,

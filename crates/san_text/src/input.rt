@@ -2,7 +2,7 @@
 
 ghost use Rattle.std.specs.Prelude.{◌≡◌};
 ghost use Rattle.san_text.specs.Activities.{arc_at, function_at, input_arc, gate_at, input_at, starts_input};
-ghost use Rattle.san_text.specs.inner.Answers.{Gives};
+ghost use Rattle.san_text.specs.inner.Answers.{GivesRead};
 
 use crate::expression::expr;
 use crate::limits::ACTIVITY_BRACES;
@@ -18,7 +18,7 @@ use std::alloc::Global;
 
 #[tactic(auto, unfolding(crate::specs::Activities::arc_at))]
 pub(crate) fn arc_at<'a>(alloc: Global, words: Words<'a>) -> Read<'a, (Name, Option<u64>)>
-    ensures { Gives result (arc_at words.entry) }
+    ensures { GivesRead result (arc_at words.entry) }
 {
     let (name, words) = name_at(alloc, words)?;
     let (weight, words) = number_or_none(words)?;
@@ -28,7 +28,7 @@ pub(crate) fn arc_at<'a>(alloc: Global, words: Words<'a>) -> Read<'a, (Name, Opt
 
 #[tactic(auto, unfolding(crate::specs::Activities::function_at))]
 fn function_at<'a>(alloc: Global, version: u64, words: Words<'a>) -> Read<'a, Items<StmtDecl>>
-    ensures { Gives result (function_at version words.entry) }
+    ensures { GivesRead result (function_at version words.entry) }
 {
     if next_mark(&words, Mark::Semicolon) {
         Ok((Items::new(alloc), words.tail()))
@@ -40,7 +40,7 @@ fn function_at<'a>(alloc: Global, version: u64, words: Words<'a>) -> Read<'a, It
 
 #[tactic(auto, unfolding(crate::specs::Activities::input_arc))]
 fn input_arc<'a>(alloc: Global, words: Words<'a>) -> Read<'a, InputDecl>
-    ensures { Gives result (input_arc words.entry) }
+    ensures { GivesRead result (input_arc words.entry) }
 {
     let ((place, weight), words) = arc_at(alloc, words)?;
     Ok((InputDecl::Arc(place, weight), words))
@@ -48,7 +48,7 @@ fn input_arc<'a>(alloc: Global, words: Words<'a>) -> Read<'a, InputDecl>
 
 #[tactic(auto, unfolding(crate::specs::Activities::gate_at))]
 fn gate_at<'a>(alloc: Global, version: u64, words: Words<'a>) -> Read<'a, InputDecl>
-    ensures { Gives result (gate_at version words.entry) }
+    ensures { GivesRead result (gate_at version words.entry) }
 {
     let words = keyword_at(Keyword::Gate, words)?;
     let (predicate, words) = expr(alloc, version, words)?;
@@ -58,7 +58,7 @@ fn gate_at<'a>(alloc: Global, version: u64, words: Words<'a>) -> Read<'a, InputD
 
 #[tactic(auto, unfolding(crate::specs::Activities::input_at))]
 fn input_at<'a>(alloc: Global, version: u64, words: Words<'a>) -> Read<'a, InputDecl>
-    ensures { Gives result (input_at version words.entry) }
+    ensures { GivesRead result (input_at version words.entry) }
 {
     if next_keyword(&words, Keyword::In) {
         input_arc(alloc, words.tail())

@@ -12,7 +12,7 @@ ghost use Rattle.san_text.specs.declared.syntax.RewardDecl.{RewardDecl};
 ghost use Rattle.san_text.specs.declared.syntax.Syntax.{Syntax};
 ghost use Rattle.san_text.specs.declared.text.Parsed.{Parsed};
 ghost use Rattle.san_text.specs.Words.{look};
-ghost use Rattle.san_text.specs.Steps.{Fault, next_keyword};
+ghost use Rattle.san_text.specs.Steps.{GrammarFault, next_keyword};
 ghost use Rattle.san_text.specs.Expressions.{expr};
 ghost use Rattle.san_text.specs.Statements.{block, stmt_at};
 ghost use Rattle.san_text.specs.Activities.{act_at};
@@ -111,11 +111,11 @@ pub fn spots_are_those_of_the_words()
 /// A law, which does nothing when it runs: what agrees up to and with the first word that isn't
 /// legal is refused there too, with the same code; so of words, and of texts with their tokens.
 pub fn agreeing_texts_are_refused_there_too()
-    ensures words { (us : List Word) (w : Word) (rest more : List Word) (f : Fault)
+    ensures words { (us : List Word) (w : Word) (rest more : List Word) (f : GrammarFault)
         → syntax_at (us ++ w ∷ rest) ≡ Err f → left_of f ≡ suc (length rest)
         → syntax_at (us ++ w ∷ more) ≡ Err (with_left f (suc (length more))) }
     ensures texts { (other : List ℕ) (ps qs : List Located) (p q : Located) (rest more : List Located)
-        (f : Fault) → syntax_at (map word_of (ps ++ p ∷ rest)) ≡ Err f
+        (f : GrammarFault) → syntax_at (map word_of (ps ++ p ∷ rest)) ≡ Err f
         → left_of f ≡ suc (length rest) → tokens other ≡ Ok (qs ++ q ∷ more)
         → map word_of qs ≡ map word_of ps → q.word ≡ p.word
         → parsed other ≡ Err (refused (code_of f) other q.start) }

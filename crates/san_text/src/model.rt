@@ -5,7 +5,7 @@ ghost use Rattle.san_lex.specs.declared.keyword.Keyword.TheVariants.{Child as Ch
 ghost use Rattle.san_lex.specs.declared.sign.Mark.TheVariants.{Comma as CommaMark};
 ghost use Rattle.san_text.specs.Steps.{next_mark, next_keyword};
 ghost use Rattle.san_text.specs.Models.{atomic_at, child_at, part_at, more_part, parts_at, share_at, join_at, shown_at, copied_at, times_at, rep_at, model_at, starts_model};
-ghost use Rattle.san_text.specs.inner.Answers.{Gives};
+ghost use Rattle.san_text.specs.inner.Answers.{GivesRead};
 
 use crate::limits::ACTIVITY_BRACES;
 use crate::steps::{
@@ -19,7 +19,7 @@ use std::alloc::Global;
 
 #[tactic(auto, unfolding(crate::specs::Models::atomic_at))]
 fn atomic_at<'a>(alloc: Global, version: u64, words: Words<'a>) -> Read<'a, ModelDecl>
-    ensures { Gives result (atomic_at version words.entry) }
+    ensures { GivesRead result (atomic_at version words.entry) }
 {
     let (name, words) = name_at(alloc, words)?;
     let words = mark_at(Mark::OpenBrace, words)?;
@@ -31,7 +31,7 @@ fn atomic_at<'a>(alloc: Global, version: u64, words: Words<'a>) -> Read<'a, Mode
 
 #[tactic(auto, unfolding(crate::specs::Models::child_at))]
 fn child_at<'a>(alloc: Global, words: Words<'a>) -> Read<'a, ChildDecl>
-    ensures { Gives result (child_at words.entry) }
+    ensures { GivesRead result (child_at words.entry) }
 {
     let words = keyword_at(Keyword::Child, words)?;
     let (name, words) = name_at(alloc, words)?;
@@ -62,7 +62,7 @@ impl Item for ChildDecl {
 
 #[tactic(auto, unfolding(crate::specs::Models::part_at))]
 fn part_at<'a>(alloc: Global, words: Words<'a>) -> Read<'a, (Name, Name)>
-    ensures { Gives result (part_at words.entry) }
+    ensures { GivesRead result (part_at words.entry) }
 {
     let (child, words) = name_at(alloc, words)?;
     let words = mark_at(Mark::Dot, words)?;
@@ -72,7 +72,7 @@ fn part_at<'a>(alloc: Global, words: Words<'a>) -> Read<'a, (Name, Name)>
 
 #[tactic(auto, unfolding(crate::specs::Models::more_part))]
 fn more_part<'a>(alloc: Global, words: Words<'a>) -> Read<'a, (Name, Name)>
-    ensures { Gives result (more_part words.entry) }
+    ensures { GivesRead result (more_part words.entry) }
 {
     part_at(alloc, words.tail())
 }
@@ -99,7 +99,7 @@ impl Item for (Name, Name) {
 
 #[tactic(auto, unfolding(crate::specs::Models::parts_at))]
 fn parts_at<'a>(alloc: Global, version: u64, words: Words<'a>) -> Read<'a, Items<(Name, Name)>>
-    ensures { Gives result (parts_at words.entry) }
+    ensures { GivesRead result (parts_at words.entry) }
 {
     let (first, words) = part_at(alloc, words)?;
     one_and(alloc, version, ACTIVITY_BRACES, first, words)
@@ -107,7 +107,7 @@ fn parts_at<'a>(alloc: Global, version: u64, words: Words<'a>) -> Read<'a, Items
 
 #[tactic(auto, unfolding(crate::specs::Models::share_at))]
 fn share_at<'a>(alloc: Global, version: u64, words: Words<'a>) -> Read<'a, ShareDecl>
-    ensures { Gives result (share_at words.entry) }
+    ensures { GivesRead result (share_at words.entry) }
 {
     let words = keyword_at(Keyword::Share, words)?;
     let (name, words) = name_at(alloc, words)?;
@@ -138,7 +138,7 @@ impl Item for ShareDecl {
 
 #[tactic(auto, unfolding(crate::specs::Models::join_at))]
 fn join_at<'a>(alloc: Global, version: u64, words: Words<'a>) -> Read<'a, ModelDecl>
-    ensures { Gives result (join_at words.entry) }
+    ensures { GivesRead result (join_at words.entry) }
 {
     let (name, words) = name_at(alloc, words)?;
     let words = mark_at(Mark::OpenBrace, words)?;
@@ -157,7 +157,7 @@ fn join_at<'a>(alloc: Global, version: u64, words: Words<'a>) -> Read<'a, ModelD
 
 #[tactic(auto, unfolding(crate::specs::Models::shown_at))]
 fn shown_at<'a>(alloc: Global, words: Words<'a>) -> Read<'a, Name>
-    ensures { Gives result (shown_at words.entry) }
+    ensures { GivesRead result (shown_at words.entry) }
 {
     let words = keyword_at(Keyword::Share, words)?;
     let (name, words) = name_at(alloc, words)?;
@@ -187,7 +187,7 @@ impl Item for Name {
 
 #[tactic(auto, unfolding(crate::specs::Models::copied_at))]
 fn copied_at<'a>(alloc: Global, words: Words<'a>) -> Read<'a, (Name, Name)>
-    ensures { Gives result (copied_at words.entry) }
+    ensures { GivesRead result (copied_at words.entry) }
 {
     let words = keyword_at(Keyword::Rep, words)?;
     let (name, words) = name_at(alloc, words)?;
@@ -198,7 +198,7 @@ fn copied_at<'a>(alloc: Global, words: Words<'a>) -> Read<'a, (Name, Name)>
 
 #[tactic(auto, unfolding(crate::specs::Models::times_at))]
 fn times_at<'a>(words: Words<'a>) -> Read<'a, u64>
-    ensures { Gives result (times_at words.entry) }
+    ensures { GivesRead result (times_at words.entry) }
 {
     let words = keyword_at(Keyword::Times, words)?;
     number_at(words)
@@ -206,7 +206,7 @@ fn times_at<'a>(words: Words<'a>) -> Read<'a, u64>
 
 #[tactic(auto, unfolding(crate::specs::Models::rep_at))]
 fn rep_at<'a>(alloc: Global, version: u64, words: Words<'a>) -> Read<'a, ModelDecl>
-    ensures { Gives result (rep_at words.entry) }
+    ensures { GivesRead result (rep_at words.entry) }
 {
     let ((name, of), words) = copied_at(alloc, words)?;
     let (times, words) = times_at(words)?;
@@ -226,7 +226,7 @@ fn rep_at<'a>(alloc: Global, version: u64, words: Words<'a>) -> Read<'a, ModelDe
 
 #[tactic(auto, unfolding(crate::specs::Models::model_at))]
 fn model_at<'a>(alloc: Global, version: u64, words: Words<'a>) -> Read<'a, ModelDecl>
-    ensures { Gives result (model_at version words.entry) }
+    ensures { GivesRead result (model_at version words.entry) }
 {
     if next_keyword(&words, Keyword::Atomic) {
         atomic_at(alloc, version, words.tail())

@@ -4,7 +4,7 @@ ghost use Rattle.std.specs.Prelude.{◌≡◌};
 ghost use Rattle.san_lex.specs.declared.keyword.Keyword.TheVariants.{Case as CaseKey};
 ghost use Rattle.san_text.specs.Steps.{next_keyword};
 ghost use Rattle.san_text.specs.Activities.{output_arc, body_at, output_at, starts_output, case_at, weighted_at, plain_at, cases_at};
-ghost use Rattle.san_text.specs.inner.Answers.{Gives};
+ghost use Rattle.san_text.specs.inner.Answers.{GivesRead};
 
 use crate::expression::expr;
 use crate::input::arc_at;
@@ -18,7 +18,7 @@ use std::alloc::Global;
 
 #[tactic(auto, unfolding(crate::specs::Activities::output_arc))]
 fn output_arc<'a>(alloc: Global, words: Words<'a>) -> Read<'a, OutputDecl>
-    ensures { Gives result (output_arc words.entry) }
+    ensures { GivesRead result (output_arc words.entry) }
 {
     let ((place, weight), words) = arc_at(alloc, words)?;
     Ok((OutputDecl::Arc(place, weight), words))
@@ -26,7 +26,7 @@ fn output_arc<'a>(alloc: Global, words: Words<'a>) -> Read<'a, OutputDecl>
 
 #[tactic(auto, unfolding(crate::specs::Activities::body_at))]
 fn body_at<'a>(alloc: Global, version: u64, braces: u32, words: Words<'a>) -> Read<'a, OutputDecl>
-    ensures { Gives result (body_at version braces words.entry) }
+    ensures { GivesRead result (body_at version braces words.entry) }
 {
     let words = keyword_at(Keyword::Do, words)?;
     let (body, words) = block(alloc, version, words, braces)?;
@@ -35,7 +35,7 @@ fn body_at<'a>(alloc: Global, version: u64, braces: u32, words: Words<'a>) -> Re
 
 #[tactic(auto, unfolding(crate::specs::Activities::output_at))]
 fn output_at<'a>(alloc: Global, version: u64, braces: u32, words: Words<'a>) -> Read<'a, OutputDecl>
-    ensures { Gives result (output_at version braces words.entry) }
+    ensures { GivesRead result (output_at version braces words.entry) }
 {
     if next_keyword(&words, Keyword::Out) {
         output_arc(alloc, words.tail())
@@ -72,7 +72,7 @@ impl Item for OutputDecl {
 
 #[tactic(auto, unfolding(crate::specs::Activities::case_at))]
 fn case_at<'a>(alloc: Global, version: u64, words: Words<'a>) -> Read<'a, CaseDecl>
-    ensures { Gives result (case_at version words.entry) }
+    ensures { GivesRead result (case_at version words.entry) }
 {
     let words = keyword_at(Keyword::Case, words)?;
     let (weight, words) = expr(alloc, version, words)?;
@@ -103,7 +103,7 @@ impl Item for CaseDecl {
 
 #[tactic(auto, unfolding(crate::specs::Activities::weighted_at))]
 fn weighted_at<'a>(alloc: Global, version: u64, words: Words<'a>) -> Read<'a, Cases>
-    ensures { Gives result (weighted_at version words.entry) }
+    ensures { GivesRead result (weighted_at version words.entry) }
 {
     let (cases, words) = many(alloc, version, ACTIVITY_BRACES, words)?;
     Ok((Cases::Weighted(cases), words))
@@ -111,7 +111,7 @@ fn weighted_at<'a>(alloc: Global, version: u64, words: Words<'a>) -> Read<'a, Ca
 
 #[tactic(auto, unfolding(crate::specs::Activities::plain_at))]
 fn plain_at<'a>(alloc: Global, version: u64, words: Words<'a>) -> Read<'a, Cases>
-    ensures { Gives result (plain_at version words.entry) }
+    ensures { GivesRead result (plain_at version words.entry) }
 {
     let (outputs, words) = many(alloc, version, ACTIVITY_BRACES, words)?;
     Ok((Cases::Plain(outputs), words))
@@ -119,7 +119,7 @@ fn plain_at<'a>(alloc: Global, version: u64, words: Words<'a>) -> Read<'a, Cases
 
 #[tactic(auto, unfolding(crate::specs::Activities::cases_at))]
 pub(crate) fn cases_at<'a>(alloc: Global, version: u64, words: Words<'a>) -> Read<'a, Cases>
-    ensures { Gives result (cases_at version words.entry) }
+    ensures { GivesRead result (cases_at version words.entry) }
 {
     if next_keyword(&words, Keyword::Case) {
         weighted_at(alloc, version, words)

@@ -4,7 +4,7 @@ ghost use Rattle.std.specs.Prelude.{◌≡◌};
 ghost use Rattle.san_lex.specs.declared.keyword.Keyword.TheVariants.{Place as PlaceKey};
 ghost use Rattle.san_text.specs.Steps.{next_keyword};
 ghost use Rattle.san_text.specs.Activities.{length_at, initial_at, place_at};
-ghost use Rattle.san_text.specs.inner.Answers.{Gives};
+ghost use Rattle.san_text.specs.inner.Answers.{GivesRead};
 
 use crate::expression::has_arrays;
 use crate::steps::{Item, Read, keyword_at, mark_at, name_at, next_keyword, next_mark, number_at};
@@ -15,7 +15,7 @@ use std::alloc::Global;
 
 #[tactic(auto, unfolding(crate::specs::Activities::length_at))]
 fn length_at<'a>(version: u64, words: Words<'a>) -> Read<'a, Option<u64>>
-    ensures { Gives result (length_at version words.entry) }
+    ensures { GivesRead result (length_at version words.entry) }
 {
     if has_arrays(version) && next_mark(&words, Mark::OpenBracket) {
         let (length, words) = number_at(words.tail())?;
@@ -28,7 +28,7 @@ fn length_at<'a>(version: u64, words: Words<'a>) -> Read<'a, Option<u64>>
 
 #[tactic(auto, unfolding(crate::specs::Activities::initial_at))]
 fn initial_at<'a>(words: Words<'a>) -> Read<'a, Option<u64>>
-    ensures { Gives result (initial_at words.entry) }
+    ensures { GivesRead result (initial_at words.entry) }
 {
     if next_mark(&words, Mark::Equals) {
         let (initial, words) = number_at(words.tail())?;
@@ -40,7 +40,7 @@ fn initial_at<'a>(words: Words<'a>) -> Read<'a, Option<u64>>
 
 #[tactic(auto, unfolding(crate::specs::Activities::place_at))]
 fn place_at<'a>(alloc: Global, version: u64, words: Words<'a>) -> Read<'a, PlaceDecl>
-    ensures { Gives result (place_at version words.entry) }
+    ensures { GivesRead result (place_at version words.entry) }
 {
     let words = keyword_at(Keyword::Place, words)?;
     let (name, words) = name_at(alloc, words)?;

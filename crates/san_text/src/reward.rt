@@ -4,7 +4,7 @@ ghost use Rattle.std.specs.Prelude.{◌≡◌};
 ghost use Rattle.san_lex.specs.declared.keyword.Keyword.TheVariants.{Reward as RewardKey};
 ghost use Rattle.san_text.specs.Steps.{next_keyword};
 ghost use Rattle.san_text.specs.Models.{bounds_at, over_at, mean_at, tick_at, span_at, rate_at, impulse_at, term_at, starts_term, measured_at, reward_at};
-ghost use Rattle.san_text.specs.inner.Answers.{Gives};
+ghost use Rattle.san_text.specs.inner.Answers.{GivesRead};
 
 use crate::expression::expr;
 use crate::limits::ACTIVITY_BRACES;
@@ -17,7 +17,7 @@ use std::alloc::Global;
 
 #[tactic(auto, unfolding(crate::specs::Models::bounds_at))]
 fn bounds_at<'a>(words: Words<'a>) -> Read<'a, (u64, u64)>
-    ensures { Gives result (bounds_at words.entry) }
+    ensures { GivesRead result (bounds_at words.entry) }
 {
     let (from, words) = number_at(words)?;
     let (to, words) = number_at(words)?;
@@ -26,7 +26,7 @@ fn bounds_at<'a>(words: Words<'a>) -> Read<'a, (u64, u64)>
 
 #[tactic(auto, unfolding(crate::specs::Models::over_at))]
 fn over_at<'a>(words: Words<'a>) -> Read<'a, SpanDecl>
-    ensures { Gives result (over_at words.entry) }
+    ensures { GivesRead result (over_at words.entry) }
 {
     let ((from, to), words) = bounds_at(words)?;
     Ok((SpanDecl::Over(from, to), words))
@@ -34,7 +34,7 @@ fn over_at<'a>(words: Words<'a>) -> Read<'a, SpanDecl>
 
 #[tactic(auto, unfolding(crate::specs::Models::mean_at))]
 fn mean_at<'a>(words: Words<'a>) -> Read<'a, SpanDecl>
-    ensures { Gives result (mean_at words.entry) }
+    ensures { GivesRead result (mean_at words.entry) }
 {
     let ((from, to), words) = bounds_at(words)?;
     Ok((SpanDecl::Mean(from, to), words))
@@ -42,7 +42,7 @@ fn mean_at<'a>(words: Words<'a>) -> Read<'a, SpanDecl>
 
 #[tactic(auto, unfolding(crate::specs::Models::tick_at))]
 fn tick_at<'a>(words: Words<'a>) -> Read<'a, SpanDecl>
-    ensures { Gives result (tick_at words.entry) }
+    ensures { GivesRead result (tick_at words.entry) }
 {
     let words = keyword_at(Keyword::At, words)?;
     let (tick, words) = number_at(words)?;
@@ -51,7 +51,7 @@ fn tick_at<'a>(words: Words<'a>) -> Read<'a, SpanDecl>
 
 #[tactic(auto, unfolding(crate::specs::Models::span_at))]
 fn span_at<'a>(words: Words<'a>) -> Read<'a, SpanDecl>
-    ensures { Gives result (span_at words.entry) }
+    ensures { GivesRead result (span_at words.entry) }
 {
     if next_keyword(&words, Keyword::Over) {
         over_at(words.tail())
@@ -64,7 +64,7 @@ fn span_at<'a>(words: Words<'a>) -> Read<'a, SpanDecl>
 
 #[tactic(auto, unfolding(crate::specs::Models::rate_at))]
 fn rate_at<'a>(alloc: Global, version: u64, words: Words<'a>) -> Read<'a, TermDecl>
-    ensures { Gives result (rate_at version words.entry) }
+    ensures { GivesRead result (rate_at version words.entry) }
 {
     let (rate, words) = expr(alloc, version, words)?;
     let words = mark_at(Mark::Semicolon, words)?;
@@ -73,7 +73,7 @@ fn rate_at<'a>(alloc: Global, version: u64, words: Words<'a>) -> Read<'a, TermDe
 
 #[tactic(auto, unfolding(crate::specs::Models::impulse_at))]
 fn impulse_at<'a>(alloc: Global, version: u64, words: Words<'a>) -> Read<'a, TermDecl>
-    ensures { Gives result (impulse_at version words.entry) }
+    ensures { GivesRead result (impulse_at version words.entry) }
 {
     let words = keyword_at(Keyword::Impulse, words)?;
     let (act, words) = name_at(alloc, words)?;
@@ -84,7 +84,7 @@ fn impulse_at<'a>(alloc: Global, version: u64, words: Words<'a>) -> Read<'a, Ter
 
 #[tactic(auto, unfolding(crate::specs::Models::term_at))]
 fn term_at<'a>(alloc: Global, version: u64, words: Words<'a>) -> Read<'a, TermDecl>
-    ensures { Gives result (term_at version words.entry) }
+    ensures { GivesRead result (term_at version words.entry) }
 {
     if next_keyword(&words, Keyword::Rate) {
         rate_at(alloc, version, words.tail())
@@ -121,7 +121,7 @@ impl Item for TermDecl {
 
 #[tactic(auto, unfolding(crate::specs::Models::measured_at))]
 fn measured_at<'a>(alloc: Global, words: Words<'a>) -> Read<'a, (Name, Name)>
-    ensures { Gives result (measured_at words.entry) }
+    ensures { GivesRead result (measured_at words.entry) }
 {
     let words = keyword_at(Keyword::Reward, words)?;
     let (name, words) = name_at(alloc, words)?;
@@ -132,7 +132,7 @@ fn measured_at<'a>(alloc: Global, words: Words<'a>) -> Read<'a, (Name, Name)>
 
 #[tactic(auto, unfolding(crate::specs::Models::reward_at))]
 fn reward_at<'a>(alloc: Global, version: u64, words: Words<'a>) -> Read<'a, RewardDecl>
-    ensures { Gives result (reward_at version words.entry) }
+    ensures { GivesRead result (reward_at version words.entry) }
 {
     let ((name, atomic), words) = measured_at(alloc, words)?;
     let (span, words) = span_at(words)?;

@@ -4,7 +4,7 @@ ghost use Rattle.std.specs.Prelude.{◌≡◌, length};
 ghost use Rattle.san_text.specs.Words.{has_arrays};
 ghost use Rattle.san_text.specs.Steps.{many};
 ghost use Rattle.san_text.specs.Statements.{set_cell, set_plain, set_at, otherwise, if_at, stmt_at, starts_stmt, inner, block};
-ghost use Rattle.san_text.specs.inner.Answers.{Gives};
+ghost use Rattle.san_text.specs.inner.Answers.{GivesRead};
 
 use crate::expression::{expr, has_arrays};
 use crate::steps::{mark_at, push};
@@ -20,7 +20,7 @@ type ReadAll<'a> = Result<(Items<StmtDecl>, Words<'a>), ReadError>;
 
 #[tactic(auto, unfolding(crate::specs::Statements::set_plain))]
 fn set_plain<'a>(alloc: Global, version: u64, name: Name, words: Words<'a>) -> Read<'a>
-    ensures { Gives result (set_plain version name words.entry) }
+    ensures { GivesRead result (set_plain version name words.entry) }
 {
     let words = mark_at(Mark::Equals, words)?;
     let (value, words) = expr(alloc, version, words)?;
@@ -30,7 +30,7 @@ fn set_plain<'a>(alloc: Global, version: u64, name: Name, words: Words<'a>) -> R
 
 #[tactic(auto, unfolding(crate::specs::Statements::set_cell))]
 fn set_cell<'a>(alloc: Global, version: u64, name: Name, words: Words<'a>) -> Read<'a>
-    ensures { Gives result (set_cell version name words.entry) }
+    ensures { GivesRead result (set_cell version name words.entry) }
 {
     let words = mark_at(Mark::OpenBracket, words)?;
     let (index, words) = expr(alloc, version, words)?;
@@ -43,7 +43,7 @@ fn set_cell<'a>(alloc: Global, version: u64, name: Name, words: Words<'a>) -> Re
 
 #[tactic(auto, unfolding(crate::specs::Statements::set_at))]
 fn set_at<'a>(alloc: Global, version: u64, name: Name, words: Words<'a>) -> Read<'a>
-    ensures { Gives result (set_at version name words.entry) }
+    ensures { GivesRead result (set_at version name words.entry) }
 {
     if has_arrays(version) && words.is_next(Sign::Mark(Mark::OpenBracket)) {
         set_cell(alloc, version, name, words)
@@ -63,7 +63,7 @@ fn starts(words: &Words<'_>) -> bool
 #[cycle(blocks)]
 #[tactic(auto, unfolding(crate::specs::Statements::stmt_by))]
 fn statement<'a>(alloc: Global, version: u64, words: Words<'a>, braces: u32) -> Read<'a>
-    ensures { Gives result (stmt_at version (block version braces) words.entry) }
+    ensures { GivesRead result (stmt_at version (block version braces) words.entry) }
 {
     match words.name(alloc)? {
         Some(name) => set_at(alloc, version, name, words.tail()),
@@ -80,7 +80,7 @@ fn statement<'a>(alloc: Global, version: u64, words: Words<'a>, braces: u32) -> 
 #[cycle(blocks)]
 #[tactic(auto, unfolding(crate::specs::Statements::if_at))]
 fn if_at<'a>(alloc: Global, version: u64, words: Words<'a>, braces: u32) -> Read<'a>
-    ensures { Gives result (if_at version (block version braces) words.entry) }
+    ensures { GivesRead result (if_at version (block version braces) words.entry) }
 {
     let (test, words) = expr(alloc, version, words)?;
     let (then, words) = block(alloc, version, words, braces)?;
@@ -91,7 +91,7 @@ fn if_at<'a>(alloc: Global, version: u64, words: Words<'a>, braces: u32) -> Read
 #[cycle(blocks)]
 #[tactic(auto, unfolding(crate::specs::Statements::otherwise))]
 fn otherwise<'a>(alloc: Global, version: u64, words: Words<'a>, braces: u32) -> ReadAll<'a>
-    ensures { Gives result (otherwise (block version braces) words.entry) }
+    ensures { GivesRead result (otherwise (block version braces) words.entry) }
 {
     if words.is_next(Sign::Keyword(Keyword::Else)) {
         block(alloc, version, words.tail(), braces)
@@ -104,7 +104,7 @@ fn otherwise<'a>(alloc: Global, version: u64, words: Words<'a>, braces: u32) -> 
 #[cycle(blocks)]
 #[tactic(auto, unfolding(crate::specs::Statements::block))]
 pub(crate) fn block<'a>(alloc: Global, version: u64, words: Words<'a>, braces: u32) -> ReadAll<'a>
-    ensures { Gives result (block version braces words.entry) }
+    ensures { GivesRead result (block version braces words.entry) }
 {
     if braces == 0 {
         if words.is_next(Sign::Mark(Mark::OpenBrace)) {
@@ -121,7 +121,7 @@ pub(crate) fn block<'a>(alloc: Global, version: u64, words: Words<'a>, braces: u
 #[cycle(blocks)]
 #[tactic(auto, unfolding(crate::specs::Statements::inner))]
 fn inner<'a>(alloc: Global, version: u64, words: Words<'a>, braces: u32) -> ReadAll<'a>
-    ensures { Gives result (inner version (block version braces) words.entry) }
+    ensures { GivesRead result (inner version (block version braces) words.entry) }
 {
     let (found, words) = statements(alloc, version, words, braces)?;
     let words = mark_at(Mark::CloseBrace, words)?;
@@ -131,7 +131,7 @@ fn inner<'a>(alloc: Global, version: u64, words: Words<'a>, braces: u32) -> Read
 /// Statements as long as they start.
 #[cycle(blocks)]
 fn statements<'a>(alloc: Global, version: u64, words: Words<'a>, braces: u32) -> ReadAll<'a>
-    ensures { Gives result (many starts_stmt (stmt_at version (block version braces)) (length
+    ensures { GivesRead result (many starts_stmt (stmt_at version (block version braces)) (length
         words.entry) words.entry) }
 {
     let mut found = Vec::new(alloc);

@@ -5,8 +5,8 @@ ghost use Rattle.san_lex.specs.Lexer.{Word};
 ghost use Rattle.san_lex.specs.declared.sign.Sign.TheVariants.{Keyword as Key, Mark as Marked};
 ghost use Rattle.san_text.specs.declared.words.ReadError.TheVariants.{Memory};
 ghost use Rattle.san_text.specs.Words.{is_next};
-ghost use Rattle.san_text.specs.Steps.{Reads, sign_at, name_at, number_at, number_or_none, many, gathered};
-ghost use Rattle.san_text.specs.inner.Answers.{Gives};
+ghost use Rattle.san_text.specs.Steps.{Reading, sign_at, name_at, number_at, number_or_none, many, gathered};
+ghost use Rattle.san_text.specs.inner.Answers.{GivesRead};
 
 use crate::words::{ReadError, Words};
 use san_base::{Items, Name};
@@ -18,7 +18,7 @@ pub type Read<'a, T> = Result<(T, Words<'a>), ReadError>;
 
 #[tactic(auto, unfolding(crate::specs::Steps::sign_at))]
 fn sign_at<'a>(sign: Sign, words: Words<'a>) -> Result<Words<'a>, ReadError>
-    ensures { Gives result (sign_at sign words.entry) }
+    ensures { GivesRead result (sign_at sign words.entry) }
 {
     if words.is_next(sign) {
         Ok(words.tail())
@@ -28,20 +28,20 @@ fn sign_at<'a>(sign: Sign, words: Words<'a>) -> Result<Words<'a>, ReadError>
 }
 
 pub(crate) fn mark_at<'a>(mark: Mark, words: Words<'a>) -> Result<Words<'a>, ReadError>
-    ensures { Gives result (sign_at (Marked mark) words.entry) }
+    ensures { GivesRead result (sign_at (Marked mark) words.entry) }
 {
     sign_at(Sign::Mark(mark), words)
 }
 
 pub(crate) fn keyword_at<'a>(keyword: Keyword, words: Words<'a>) -> Result<Words<'a>, ReadError>
-    ensures { Gives result (sign_at (Key keyword) words.entry) }
+    ensures { GivesRead result (sign_at (Key keyword) words.entry) }
 {
     sign_at(Sign::Keyword(keyword), words)
 }
 
 #[tactic(auto, unfolding(crate::specs::Steps::name_at))]
 pub(crate) fn name_at<'a>(alloc: Global, words: Words<'a>) -> Result<(Name, Words<'a>), ReadError>
-    ensures { Gives result (name_at words.entry) }
+    ensures { GivesRead result (name_at words.entry) }
 {
     match words.name(alloc)? {
         Some(name) => Ok((name, words.tail())),
@@ -51,7 +51,7 @@ pub(crate) fn name_at<'a>(alloc: Global, words: Words<'a>) -> Result<(Name, Word
 
 #[tactic(auto, unfolding(crate::specs::Steps::number_at))]
 pub(crate) fn number_at<'a>(words: Words<'a>) -> Result<(u64, Words<'a>), ReadError>
-    ensures { Gives result (number_at words.entry) }
+    ensures { GivesRead result (number_at words.entry) }
 {
     match words.number() {
         Some(n) => Ok((n, words.tail())),
@@ -63,7 +63,7 @@ pub(crate) fn number_at<'a>(words: Words<'a>) -> Result<(u64, Words<'a>), ReadEr
 pub trait Item: Sized + Drop {
     ghost starting: { List Word → Bool };
 
-    ghost reading: { ℕ → ℕ → Reads Self };
+    ghost reading: { ℕ → ℕ → Reading Self };
 
     fn starts(words: &Words<'_>) -> bool
         ensures { result ≡ starting words.now };
@@ -74,7 +74,7 @@ pub trait Item: Sized + Drop {
         braces: u32,
         words: Words<'a>,
     ) -> Result<(Self, Words<'a>), ReadError>
-        ensures { Gives result (reading version braces words.entry) };
+        ensures { GivesRead result (reading version braces words.entry) };
 }
 
 /// Adds an item.
@@ -93,7 +93,7 @@ pub(crate) fn many_after<'a, T: Item>(
     found: Vec<T>,
     words: Words<'a>,
 ) -> Result<(Items<T>, Words<'a>), ReadError>
-    ensures { Gives result (gathered found.items (many T.starting (T.reading version braces)
+    ensures { GivesRead result (gathered found.items (many T.starting (T.reading version braces)
         (length words.entry) words.entry)) }
 {
     let mut found = found;
@@ -116,7 +116,7 @@ pub(crate) fn many<'a, T: Item>(
     braces: u32,
     words: Words<'a>,
 ) -> Result<(Items<T>, Words<'a>), ReadError>
-    ensures { Gives result (many T.starting (T.reading version braces) (length words.entry)
+    ensures { GivesRead result (many T.starting (T.reading version braces) (length words.entry)
         words.entry) }
 {
     many_after(alloc, version, braces, Vec::new(alloc), words)
@@ -136,7 +136,7 @@ pub(crate) fn next_keyword(words: &Words<'_>, keyword: Keyword) -> bool
 
 #[tactic(auto, unfolding(crate::specs::Steps::number_or_none))]
 pub(crate) fn number_or_none<'a>(words: Words<'a>) -> Result<(Option<u64>, Words<'a>), ReadError>
-    ensures { Gives result (number_or_none words.entry) }
+    ensures { GivesRead result (number_or_none words.entry) }
 {
     match words.number() {
         Some(n) => Ok((Some(n), words.tail())),
@@ -152,7 +152,7 @@ pub(crate) fn one_and<'a, T: Item>(
     first: T,
     words: Words<'a>,
 ) -> Result<(Items<T>, Words<'a>), ReadError>
-    ensures { Gives result (gathered (first ∷ []) (many T.starting (T.reading version braces)
+    ensures { GivesRead result (gathered (first ∷ []) (many T.starting (T.reading version braces)
         (length words.entry) words.entry)) }
 {
     let mut found = Vec::new(alloc);

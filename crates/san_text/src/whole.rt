@@ -2,7 +2,7 @@
 
 ghost use Rattle.std.specs.Prelude.{◌≡◌};
 ghost use Rattle.san_text.specs.Models.{version_at, head_at, system_at, ended, syntax_at};
-ghost use Rattle.san_text.specs.inner.Answers.{Gives};
+ghost use Rattle.san_text.specs.inner.Answers.{GivesRead};
 
 use crate::limits::{ACTIVITY_BRACES, FIRST_VERSION, LAST_VERSION};
 use crate::steps::{Read, keyword_at, many, mark_at, name_at, number_at};
@@ -14,7 +14,7 @@ use std::alloc::Global;
 
 #[tactic(auto, unfolding(crate::specs::Models::version_at))]
 fn version_at<'a>(words: Words<'a>) -> Read<'a, u64>
-    ensures { Gives result (version_at words.entry) }
+    ensures { GivesRead result (version_at words.entry) }
 {
     let left = words.len();
     let (version, words) = number_at(words)?;
@@ -27,7 +27,7 @@ fn version_at<'a>(words: Words<'a>) -> Read<'a, u64>
 
 #[tactic(auto, unfolding(crate::specs::Models::head_at))]
 fn head_at<'a>(words: Words<'a>) -> Read<'a, u64>
-    ensures { Gives result (head_at words.entry) }
+    ensures { GivesRead result (head_at words.entry) }
 {
     let words = keyword_at(Keyword::San, words)?;
     let (version, words) = version_at(words)?;
@@ -37,7 +37,7 @@ fn head_at<'a>(words: Words<'a>) -> Read<'a, u64>
 
 #[tactic(auto, unfolding(crate::specs::Models::system_at))]
 fn system_at<'a>(alloc: Global, words: Words<'a>) -> Read<'a, (Name, usize)>
-    ensures { Gives result (system_at words.entry) }
+    ensures { GivesRead result (system_at words.entry) }
 {
     let words = keyword_at(Keyword::System, words)?;
     let left = words.len();
@@ -48,7 +48,7 @@ fn system_at<'a>(alloc: Global, words: Words<'a>) -> Read<'a, (Name, usize)>
 
 #[tactic(auto, unfolding(crate::specs::Models::ended))]
 fn ended(words: Words<'_>) -> Result<usize, ReadError>
-    ensures { Gives result (ended words.entry) }
+    ensures { GivesRead result (ended words.entry) }
 {
     if words.len() == 0 {
         Ok(0)
@@ -60,7 +60,7 @@ fn ended(words: Words<'_>) -> Result<usize, ReadError>
 /// The syntax, and how many words are left at the system's name.
 #[tactic(auto, unfolding(crate::specs::Models::syntax_at))]
 pub(crate) fn syntax_at(alloc: Global, words: Words<'_>) -> Result<(Syntax, usize), ReadError>
-    ensures { Gives result (syntax_at words.entry) }
+    ensures { GivesRead result (syntax_at words.entry) }
 {
     let (version, words) = head_at(words)?;
     let (models, words) = many(alloc, version, ACTIVITY_BRACES, words)?;

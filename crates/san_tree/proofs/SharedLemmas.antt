@@ -9,10 +9,11 @@ use Rattle.std.proofs.lemmas.List.{length-append, length-take-le}
 use Rattle.std.proofs.lemmas.List.Folds.{list_any-append, position_or_len_push}
 use Rattle.std.proofs.lemmas.List.Sums.{prefix_len-le-length}
 use Rattle.san_base.proofs.Bools.{both_true, or_false}
+use Rattle.san_base.proofs.NumberTests.{same_number}
 use Rattle.san_tree.specs.declared.node.Node.{Node}
 use Rattle.san_tree.specs.declared.node.Node.TheVariants.{Leaf, Join, Rep}
 use Rattle.san_tree.specs.Places.{node_at, shared_as}
-use Rattle.san_tree.specs.inner.Shared.{Knows, Part, child_key, known_as, or_else, same_part}
+use Rattle.san_tree.specs.inner.Shared.{Knows, SharePart, child_key, known_as, or_else, same_part}
 
 or_else_none : (a : Option ℕ) → or_else a None ≡ a
 or_else_none None = refl
@@ -24,21 +25,14 @@ known_shared (Leaf _) c p = refl
 known_shared (Join _ shares) c p = refl
 known_shared (Rep _ _ shares) c p = refl
 
-same_number : (m n : ℕ) → nat_eq m n ≡ true → m ≡ n
-same_number m n h = by_test (eqb_tells m n)
-  where
-    by_test : ((nat_eq m n ≡ true) × (m ≡ n)) ⊎ ((nat_eq m n ≡ false) × (m ≡ n → ⊥)) → m ≡ n
-    by_test (inl t) = t.1
-    by_test (inr f) = absurd (true≢false (sym h ∙ f.0))
-
-same_is : (a b : Part) → same_part a b ≡ true → a ≡ b
+same_is : (a b : SharePart) → same_part a b ≡ true → a ≡ b
 same_is (m, c, p) (n, d, q) h =
     let one = both_true (nat_eq m n && nat_eq c d) (nat_eq p q) h in
     let two = both_true (nat_eq m n) (nat_eq c d) one.0 in
     ap (λ (x : ℕ). (x, c, p)) (same_number m n two.0) ∙ ap (λ (x : ℕ). (n, x, p)) (same_number c d two.1) ∙ ap (λ (x : ℕ). (n, d, x)) (same_number p q one.1)
 
 -- a part that isn't there is noted
-pub noted : (found after : Part → Option ℕ) (part : Part) (v : ℕ) → found part ≡ None → ((q : Part) → after q ≡ cond (same_part part q) (Some v) (found q)) → (q : Part)
+pub noted : (found after : SharePart → Option ℕ) (part : SharePart) (v : ℕ) → found part ≡ None → ((q : SharePart) → after q ≡ cond (same_part part q) (Some v) (found q)) → (q : SharePart)
     → after q ≡ or_else (found q) (cond (same_part part q) (Some v) None)
 noted found after part v none new q = new q ∙ by_test (same_part part q) refl
   where
@@ -47,7 +41,7 @@ noted found after part v none new q = new q ∙ by_test (same_part part q) refl
     by_test false is = sym (or_else_none (found q))
 
 -- a part that is there stays
-kept : (found : Part → Option ℕ) (part : Part) (v w : ℕ) → found part ≡ Some w → (q : Part) → found q ≡ or_else (found q) (cond (same_part part q) (Some v) None)
+kept : (found : SharePart → Option ℕ) (part : SharePart) (v w : ℕ) → found part ≡ Some w → (q : SharePart) → found q ≡ or_else (found q) (cond (same_part part q) (Some v) None)
 kept found part v w there q = by_test (same_part part q) refl
   where
     by_test : (b : Bool) → same_part part q ≡ b → found q ≡ or_else (found q) (cond b (Some v) None)
@@ -65,9 +59,9 @@ and_both_of true b x = refl
 and_both_of false b x = refl
 
 -- one part more of a share
-pub part_more : (found before after : Part → Option ℕ) (node v : ℕ) (parts : List (ℕ × ℕ)) (i : ℕ) (part : ℕ × ℕ) → i < length parts → part ≡ get_or parts i part
+pub part_more : (found before after : SharePart → Option ℕ) (node v : ℕ) (parts : List (ℕ × ℕ)) (i : ℕ) (part : ℕ × ℕ) → i < length parts → part ≡ get_or parts i part
     → ((k c p : ℕ) → before (k, c, p) ≡ or_else (found (k, c, p)) (cond (nat_eq node k && list_any (λ x. nat_eq x.0 c && nat_eq x.1 p) (take i parts)) (Some v) None))
-    → ((q : Part) → after q ≡ or_else (before q) (cond (same_part (node, part.0, part.1) q) (Some v) None)) → (k c p : ℕ)
+    → ((q : SharePart) → after q ≡ or_else (before q) (cond (same_part (node, part.0, part.1) q) (Some v) None)) → (k c p : ℕ)
     → after (k, c, p) ≡ or_else (found (k, c, p)) (cond (nat_eq node k && list_any (λ x. nat_eq x.0 c && nat_eq x.1 p) (take (i + 1) parts)) (Some v) None)
 part_more found before after node v parts i part lt is was new k c p =
     let f : ℕ × ℕ → Bool = λ x. nat_eq x.0 c && nat_eq x.1 p in
@@ -106,7 +100,7 @@ either_place None m true x n = refl
 either_place None m false x n = refl
 
 -- one item more, at which the parts begin to be known
-pub item_more : {A : Type 0} (found before after : Part → Option ℕ) (test : ℕ → ℕ → A → Bool) (here : ℕ → ℕ → Bool) (items : List A) (i : ℕ) (item d : A) → i < length items → item ≡ get_or items i d
+pub item_more : {A : Type 0} (found before after : SharePart → Option ℕ) (test : ℕ → ℕ → A → Bool) (here : ℕ → ℕ → Bool) (items : List A) (i : ℕ) (item d : A) → i < length items → item ≡ get_or items i d
     → ((k c p : ℕ) → before (k, c, p) ≡ or_else (found (k, c, p)) (cond (here k c) (position (test c p) (take i items)) None))
     → ((k c p : ℕ) → after (k, c, p) ≡ or_else (before (k, c, p)) (cond (here k c && test c p item) (Some i) None)) → (k c p : ℕ)
     → after (k, c, p) ≡ or_else (found (k, c, p)) (cond (here k c) (position (test c p) (take (i + 1) items)) None)
@@ -125,7 +119,7 @@ nothing_yet o true = sym (or_else_none o)
 nothing_yet o false = sym (or_else_none o)
 
 -- one node more
-pub knows_more : (nodes : List Node) (i : ℕ) (node : Node) (before after : Part → Option ℕ) → node ≡ node_at nodes i → Knows nodes i before
+pub knows_more : (nodes : List Node) (i : ℕ) (node : Node) (before after : SharePart → Option ℕ) → node ≡ node_at nodes i → Knows nodes i before
     → ((k c p : ℕ) → after (k, c, p) ≡ or_else (before (k, c, p)) (cond (nat_eq i k) (known_as node c p) None)) → Knows nodes (i + 1) after
 knows_more nodes i node before after is known new k c p = new k c p ∙ ap (λ o. or_else o (cond (nat_eq i k) (known_as node c p) None)) (known k c p) ∙ by_tests (leb_tells (suc k) i) (eqb_tells i k)
   where
@@ -152,15 +146,15 @@ pub none_there : (o : Option ℕ) → is_some o ≡ false → o ≡ None
 none_there None is = refl
 none_there (Some v) is = absurd (true≢false is)
 
-pub some_there : (found : Part → Option ℕ) (part : Part) (v : ℕ) → is_some (found part) ≡ true → (q : Part) → found q ≡ or_else (found q) (cond (same_part part q) (Some v) None)
+pub some_there : (found : SharePart → Option ℕ) (part : SharePart) (v : ℕ) → is_some (found part) ≡ true → (q : SharePart) → found q ≡ or_else (found q) (cond (same_part part q) (Some v) None)
 some_there found part v is = by_look (found part) refl is
   where
-    by_look : (o : Option ℕ) → found part ≡ o → is_some o ≡ true → (q : Part) → found q ≡ or_else (found q) (cond (same_part part q) (Some v) None)
+    by_look : (o : Option ℕ) → found part ≡ o → is_some o ≡ true → (q : SharePart) → found q ≡ or_else (found q) (cond (same_part part q) (Some v) None)
     by_look None e is = absurd (true≢false (sym is))
     by_look (Some w) e is = kept found part v w e
 
 -- what a table of all nodes finds for a child's place
-pub at_part : (nodes : List Node) (n : ℕ) (node : Node) (c p key : ℕ) (found : Part → Option ℕ) → key ≡ child_key node c → n < length nodes → node ≡ node_at nodes n → Knows nodes (length nodes) found
+pub at_part : (nodes : List Node) (n : ℕ) (node : Node) (c p key : ℕ) (found : SharePart → Option ℕ) → key ≡ child_key node c → n < length nodes → node ≡ node_at nodes n → Knows nodes (length nodes) found
     → found (n, key, p) ≡ shared_as (node_at nodes n) c p
 at_part nodes n node c p key found is within at known =
     known n key p ∙ ap (λ b. cond b (known_as (node_at nodes n) key p) None) (lt-ltb n (length nodes) within)

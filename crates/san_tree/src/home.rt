@@ -8,7 +8,7 @@ ghost use Rattle.san_tree.specs.inner.Shared.{Knows, same_part};
 ghost use Rattle.san_tree.specs.inner.Walks.{settled};
 
 use crate::node::Node;
-use crate::shared::{Part, child_key};
+use crate::shared::{SharePart, child_key};
 use indexmap::IndexMap;
 
 /// Where the climb of a leaf's place ends: the depth of the node below which it stays, 0 for the
@@ -24,7 +24,7 @@ pub struct Home {
 /// share, or else by a search of the shares.
 pub(crate) fn climb(
     nodes: &[Node],
-    table: Option<&IndexMap<Part, u32>>,
+    table: Option<&IndexMap<SharePart, u32>>,
     n: u32,
     path: &[u32],
     place: u32,
@@ -68,7 +68,7 @@ fn child_at(nodes: &[Node], n: u32, child: u32) -> u32
 /// The place of the node that a child's place becomes, where the node shares it.
 fn shared_at(
     nodes: &[Node],
-    table: Option<&IndexMap<Part, u32>>,
+    table: Option<&IndexMap<SharePart, u32>>,
     n: u32,
     child: u32,
     place: u32,

@@ -12,7 +12,7 @@ use crate::counts::{count_at, counts};
 use crate::home::{Home, climb};
 use crate::instance::{Instance, walk};
 use crate::node::Node;
-use crate::shared::{Part, table_of};
+use crate::shared::{SharePart, table_of};
 use crate::valid::is_tree;
 use indexmap::IndexMap;
 use san_base::NoMemory;
@@ -94,7 +94,7 @@ impl Tree {
 #[derive(Drop)]
 pub struct Homes<'a> {
     tree: &'a Tree,
-    table: IndexMap<Part, u32>,
+    table: IndexMap<SharePart, u32>,
     ghost kept: { Knows tree.now.nodes (length tree.now.nodes) (get same_part table) },
 }
 

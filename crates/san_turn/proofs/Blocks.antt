@@ -11,7 +11,7 @@ use Rattle.san_law.specs.Order.{Order, flags_from, going_after}
 use Rattle.san_law.proofs.Flags.{length_flags}
 use Rattle.san_turn.specs.Changes.{OrderValue, flag_after, local_due, order_by, order_of_block, after_taking}
 use Rattle.san_turn.specs.declared.need.Taken.{Taken}
-use Rattle.san_turn.specs.inner.Ordered.{IsOrdered}
+use Rattle.san_turn.specs.inner.Ordered.{HasEachLeaf}
 use Rattle.san_turn.specs.inner.Timed.{TimersValue, with_due}
 
 -- the value of an order of these fields
@@ -50,8 +50,8 @@ block_taken net v j t going us ss ts ps qs kinds goes u up s sp due =
     ∙ ap (with_order v) (sym (by_block net v.order j (slice_index v.firsts j) t t.kind kinds))
 
 -- an order keeps two flags and a timer for each leaf
-pub ordered_after : (f g : ℕ → Bool → Bool) (us ss vs ws : List Bool) (ts xs : TimersValue) (j : ℕ) (due : Option (Tick × ActId)) → IsOrdered us ss ts
-    → vs ≡ flags_from f 0 us → ws ≡ flags_from g 0 ss → xs ≡ with_due ts j due → IsOrdered vs ws xs
+pub ordered_after : (f g : ℕ → Bool → Bool) (us ss vs ws : List Bool) (ts xs : TimersValue) (j : ℕ) (due : Option (Tick × ActId)) → HasEachLeaf us ss ts
+    → vs ≡ flags_from f 0 us → ws ≡ flags_from g 0 ss → xs ≡ with_due ts j due → HasEachLeaf vs ws xs
 ordered_after f g us ss vs ws ts xs j due is u s d =
     let firsts = ap (λ (x : TimersValue). length x.firsts) d in
     record {

@@ -1,5 +1,6 @@
 -- The first flag that is up, and flags that go up.
 use Rattle.san_base.proofs.Bools.{or_right, or_assoc}
+use Rattle.san_base.proofs.NumberTests.{number_itself, other_number}
 use Rattle.std.proofs.Common.{ℕ, ◌<◌, ◌≤◌, ◌≡◌, ◌∙◌, ◌⊎◌, inl, inr, ap, sym, refl, List, [], ◌∷◌, length, Option, Some, None, Bool, true, false, arith, nat_eq, ◌||◌, slice_set}
 use Rattle.std.specs.List.{list_any}
 use Rattle.std.proofs.lemmas.Bool.{cases_eq, cases_lt}
@@ -8,7 +9,7 @@ use Rattle.std.proofs.lemmas.Option.{get_or_from_slice_get}
 use Rattle.san_base.specs.declared.numbers.LeafId.{LeafId}
 use Rattle.san_base.specs.declared.numbers.PlaceId.{PlaceId}
 use Rattle.san_law.specs.Order.{first_true, flag}
-use Rattle.san_law.proofs.Flags.{IsLeast, eq_other, eq_self, first_is, none_is}
+use Rattle.san_law.proofs.Flags.{IsLeast, first_is, none_is}
 use Rattle.san_net.specs.Tables.{importers_of}
 use Rattle.san_net.specs.declared.part.Part.{Part}
 use Rattle.san_winner.specs.Flags.{SaysNext}
@@ -67,10 +68,10 @@ raised_at (l ∷ ls) fs i h =
       | inl e ↦ next
           ∙ ap (λ (b : Bool). b || any_leaf i ls) (set_same false fs l.0 i true e (omega (arith, h, e)))
           ∙ sym (or_right (flag fs i))
-          ∙ ap (λ (b : Bool). flag fs i || (b || any_leaf i ls)) (sym (ap (λ (n : ℕ). nat_eq n l.0) e ∙ eq_self l.0))
+          ∙ ap (λ (b : Bool). flag fs i || (b || any_leaf i ls)) (sym (ap (λ (n : ℕ). nat_eq n l.0) e ∙ number_itself l.0))
       | inr n ↦ next
           ∙ ap (λ (b : Bool). b || any_leaf i ls) (get_or-set_other fs l.0 i true false n)
-          ∙ ap (λ (b : Bool). flag fs i || (b || any_leaf i ls)) (sym (eq_other i l.0 n))
+          ∙ ap (λ (b : Bool). flag fs i || (b || any_leaf i ls)) (sym (other_number i l.0 n))
     ]
 
 -- whether a leaf has one of these places

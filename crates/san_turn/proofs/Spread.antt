@@ -1,5 +1,6 @@
 -- The flags after a block are the law's.
 use Rattle.san_base.proofs.Bools.{or_false, and_false}
+use Rattle.san_base.proofs.NumberTests.{number_itself, other_number}
 use Rattle.std.proofs.Common.{ℕ, zero, suc, ◌+◌, ◌<◌, ◌≡◌, ◌≢◌, ◌∙◌, inl, inr, ap, sym, refl, List, [], ◌∷◌, length, map, filter, Option, Some, None, Bool, true, false, arith, nat_eq, ◌||◌, ◌&&◌, cond, slice_set}
 use Rattle.std.specs.Prelude.{slice_get}
 use Rattle.std.specs.List.{list_any}
@@ -9,7 +10,7 @@ use Rattle.san_base.specs.declared.numbers.PlaceId.{PlaceId}
 use Rattle.san_law.specs.Network as law
 use Rattle.san_law.specs.Order.{any_in, flag, flags_from, is_in}
 use Rattle.san_law.specs.State.{index_of, or_next, slots_of}
-use Rattle.san_law.proofs.Flags.{eq_other, eq_self, flag_is, length_flags}
+use Rattle.san_law.proofs.Flags.{flag_is, length_flags}
 use Rattle.san_net.specs.Laid.{places_of}
 use Rattle.san_net.specs.Network.{Network, net_of}
 use Rattle.san_net.specs.Tables.{importers_of}
@@ -45,7 +46,7 @@ none_before a i q (r ∷ rs) numbered h =
     let other : i ≢ r.leaf.0 = omega (arith, h, e) in
     let b = list_any (nat_eq q) (places_of r) in
     any_first a i q r rs b refl
-    ∙ ap (λ (x : Bool). (b && x) || any_leaf i (importers_of rs q)) (eq_other i r.leaf.0 other)
+    ∙ ap (λ (x : Bool). (b && x) || any_leaf i (importers_of rs q)) (other_number i r.leaf.0 other)
     ∙ ap (λ (x : Bool). x || any_leaf i (importers_of rs q)) (and_false b)
     ∙ none_before (suc a) i q rs (from_next a r rs numbered) (omega (arith, h))
 
@@ -58,7 +59,7 @@ leaf_at a i zero q (r ∷ rs) p numbered at is =
     let b = list_any (nat_eq q) (places_of r) in
     let here : r ≡ p = part_of_some r p is in
     any_first a i q r rs b refl
-    ∙ ap (λ (x : Bool). (b && x) || any_leaf i (importers_of rs q)) (ap (λ (n : ℕ). nat_eq n r.leaf.0) same ∙ eq_self r.leaf.0)
+    ∙ ap (λ (x : Bool). (b && x) || any_leaf i (importers_of rs q)) (ap (λ (n : ℕ). nat_eq n r.leaf.0) same ∙ number_itself r.leaf.0)
     ∙ ap (λ (x : Bool). x || any_leaf i (importers_of rs q)) (and_true b)
     ∙ ap (λ (x : Bool). b || x) (none_before (suc a) i q rs (from_next a r rs numbered) (omega (arith, at)))
     ∙ or_false b
@@ -71,7 +72,7 @@ leaf_at a i (suc k) q (r ∷ rs) p numbered at is =
     let other : i ≢ r.leaf.0 = omega (arith, at, e) in
     let b = list_any (nat_eq q) (places_of r) in
     any_first a i q r rs b refl
-    ∙ ap (λ (x : Bool). (b && x) || any_leaf i (importers_of rs q)) (eq_other i r.leaf.0 other)
+    ∙ ap (λ (x : Bool). (b && x) || any_leaf i (importers_of rs q)) (other_number i r.leaf.0 other)
     ∙ ap (λ (x : Bool). x || any_leaf i (importers_of rs q)) (and_false b)
     ∙ leaf_at (suc a) i k q rs p (from_next a r rs numbered) (omega (arith, at)) is
 
@@ -117,9 +118,9 @@ module _ (n : Network) (draw : ℕ → ℕ → ℕ) (limits : law.Limits) (numbe
       at : (i : ℕ) → ((p : Part) × (slice_get n.parts i ≡ Some p)) → i < length fs → flag (slice_set (raised_all n.parts places fs) j own) i ≡ flag (flags_from f 0 fs) i
       at i (p, is) h = elim (cases_eq i j) [
         | inl e ↦ set_same false (raised_all n.parts places fs) j i own e (omega (arith, within, sized, length_raised_all n.parts places fs))
-            ∙ sym (flag_is f i fs h ∙ ap (λ (b : Bool). cond b own (flag fs i || any_in (map (λ (x : PlaceId). x.0) places) (slots_of (net_of n draw limits) i))) (ap (λ (m : ℕ). nat_eq m j) e ∙ eq_self j))
+            ∙ sym (flag_is f i fs h ∙ ap (λ (b : Bool). cond b own (flag fs i || any_in (map (λ (x : PlaceId). x.0) places) (slots_of (net_of n draw limits) i))) (ap (λ (m : ℕ). nat_eq m j) e ∙ number_itself j))
         | inr n_ ↦ get_or-set_other (raised_all n.parts places fs) j i own false n_
             ∙ raised_all_at n.parts places fs i h
             ∙ ap (λ (b : Bool). flag fs i || b) (place_there i p is places)
-            ∙ sym (flag_is f i fs h ∙ ap (λ (b : Bool). cond b own (flag fs i || any_in (map (λ (x : PlaceId). x.0) places) (slots_of (net_of n draw limits) i))) (eq_other i j n_))
+            ∙ sym (flag_is f i fs h ∙ ap (λ (b : Bool). cond b own (flag fs i || any_in (map (λ (x : PlaceId). x.0) places) (slots_of (net_of n draw limits) i))) (other_number i j n_))
       ]

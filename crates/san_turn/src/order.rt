@@ -32,7 +32,7 @@ pub struct Order {
 impl Model for Order {
     ghost use Rattle.std.specs.Option.{option_map};
     ghost use Rattle.san_turn.specs.Changes.{OrderValue};
-    ghost use Rattle.san_turn.specs.inner.Ordered.{IsOrdered};
+    ghost use Rattle.san_turn.specs.inner.Ordered.{HasEachLeaf};
 
     ghost Value = { OrderValue };
 
@@ -48,7 +48,7 @@ impl Model for Order {
       horizon = o.horizon.0;
     } };
 
-    ghost invariant = { λ o. IsOrdered o.unsettled o.stale o.timers };
+    ghost invariant = { λ o. HasEachLeaf o.unsettled o.stale o.timers };
 }
 
 /// A leaf goes on where its piece had more.

@@ -1,7 +1,7 @@
 -- The whole tree and its list of keys.
 use Rattle.std.proofs.Common.{ℕ, zero, suc, ◌+◌, ◌-◌, ◌<◌, ◌≤◌, ◌≡◌, ◌≢◌, ◌∙◌, ap, sym, refl, List, [], ◌∷◌, length, Option, None, inl, inr, arith, slice_index_or, slice_set, take, drop, get_or-set_same, get_or-set_other, replicate}
 use Rattle.std.proofs.lemmas.Bool.{cases_eq}
-use Rattle.san_winner.specs.Least.{Won, sooner, leaf, least_from, least_between, IsTree, HasLeaves, IsPower, span}
+use Rattle.san_winner.specs.Least.{Won, sooner, leaf, least_from, least_between, AreWon, HasLeaves, IsPower, span}
 use Rattle.san_winner.proofs.SpanLemmas.{sooner_none, span_add, span_list, span_none, root, double, power}
 
 -- past a list's end there is nothing
@@ -10,7 +10,7 @@ past [] k h = refl
 past (x ∷ xs) zero h = absurd (omega (arith, h))
 past (x ∷ xs) (suc k) h = past xs k (omega (arith, h))
 
-pub top : (size : ℕ) (nodes : List Won) (keys : List (Option ℕ)) → IsPower size → length keys ≤ size → IsTree size nodes → HasLeaves size nodes keys → slice_index_or nodes 1 None ≡ least_from 0 keys
+pub top : (size : ℕ) (nodes : List Won) (keys : List (Option ℕ)) → IsPower size → length keys ≤ size → AreWon size nodes → HasLeaves size nodes keys → slice_index_or nodes 1 None ≡ least_from 0 keys
 top size nodes keys (h, e) b t l =
     let f : ℕ → Won = λ v. slice_index_or nodes v None in
     let n : ℕ = length keys in
@@ -66,7 +66,7 @@ get_same zero k d = refl
 get_same (suc n) zero d = refl
 get_same (suc n) (suc k) d = get_same n k d
 
-pub tree_none : (size n : ℕ) (nodes : List Won) → nodes ≡ replicate n None → IsTree size nodes
+pub tree_none : (size n : ℕ) (nodes : List Won) → nodes ≡ replicate n None → AreWon size nodes
 tree_none size n nodes e v p q =
     let d : Won = None in
     let at : (k : ℕ) → slice_index_or nodes k None ≡ None = λ k. ap (λ (xs : List Won). slice_index_or xs k None) e ∙ get_same n k d in

@@ -35,12 +35,12 @@ least_between lo hi keys = least_from lo (take (hi - lo) (drop lo keys))
 abbrev pub IsWon : List Won → ℕ → Type 0
 IsWon nodes v = slice_index_or nodes v None ≡ sooner (slice_index_or nodes (v + v) None) (slice_index_or nodes (v + v + 1) None)
 
-abbrev pub IsTree : ℕ → List Won → Type 0
-IsTree size nodes = (v : ℕ) → 0 < v → v < size → IsWon nodes v
+abbrev pub AreWon : ℕ → List Won → Type 0
+AreWon size nodes = (v : ℕ) → 0 < v → v < size → IsWon nodes v
 
 -- all but one node are right
-abbrev pub IsTreeBut : ℕ → ℕ → List Won → Type 0
-IsTreeBut at size nodes = (v : ℕ) → 0 < v → v < size → v ≢ at → IsWon nodes v
+abbrev pub AreWonBut : ℕ → ℕ → List Won → Type 0
+AreWonBut at size nodes = (v : ℕ) → 0 < v → v < size → v ≢ at → IsWon nodes v
 
 -- the lowest nodes have the keys
 abbrev pub HasLeaves : ℕ → List Won → List (Option ℕ) → Type 0
@@ -55,5 +55,5 @@ pub record Stands (size : ℕ) (keys : List (Option ℕ)) (nodes : List Won) : T
   pub small : size < MAX_SIZE
   pub room : length keys ≤ size
   pub sized : length nodes ≡ size + size
-  pub tree : IsTree size nodes
+  pub tree : AreWon size nodes
   pub leaves : HasLeaves size nodes keys

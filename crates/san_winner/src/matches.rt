@@ -2,7 +2,7 @@
 
 ghost use Rattle.std.specs.Prelude.{◌≡◌, ℕ, ◌+◌, ◌-◌, ◌<◌, ◌≤◌, ◌≢◌, length, IfOk, IsTrue, slice_index_or, replicate, None};
 ghost use Rattle.san_winner.specs.declared.matches.TheConstants.{MAX_SIZE};
-ghost use Rattle.san_winner.specs.Least.{sooner, leaf, span, IsTree, IsTreeBut};
+ghost use Rattle.san_winner.specs.Least.{sooner, leaf, span, AreWon, AreWonBut};
 
 use std::alloc::{AllocError, Global};
 
@@ -52,8 +52,8 @@ fn raise(nodes: &mut [Won], size: usize, first: usize)
     requires long { length nodes.old ≡ size + size }
     requires small { size < MAX_SIZE }
     requires first { first < size }
-    requires tree { IsTreeBut first size nodes.old }
-    ensures tree { IsTree size nodes.new }
+    requires tree { AreWonBut first size nodes.old }
+    ensures tree { AreWon size nodes.new }
     ensures leaves { (k : ℕ) → size ≤ k → slice_index_or nodes.new k None ≡ slice_index_or nodes.old k None }
 {
     let mut at = first;
@@ -74,7 +74,7 @@ pub(crate) fn between(nodes: &[Won], size: usize, lo: usize, hi: usize) -> Won
     requires some { 0 < size }
     requires lo { lo ≤ hi }
     requires hi { hi ≤ size }
-    requires tree { IsTree size nodes.now }
+    requires tree { AreWon size nodes.now }
     ensures { result ≡ span (λ v. slice_index_or nodes.now v None) (size + lo) (hi - lo) }
 {
     let mut low = size + lo;
@@ -101,8 +101,8 @@ pub(crate) fn put(nodes: &mut [Won], size: usize, at: usize, key: Option<u64>)
     requires long { length nodes.old ≡ size + size }
     requires small { size < MAX_SIZE }
     requires at { at < size }
-    requires tree { IsTree size nodes.old }
-    ensures tree { IsTree size nodes.new }
+    requires tree { AreWon size nodes.old }
+    ensures tree { AreWon size nodes.new }
     ensures here { slice_index_or nodes.new (size + at) None ≡ leaf at key }
     ensures others { (k : ℕ) → size ≤ k → k ≢ size + at → slice_index_or nodes.new k None ≡ slice_index_or nodes.old k None }
 {

@@ -5,9 +5,9 @@ use Rattle.clap.specs.Simple.{App, matches_of}
 use Rattle.clap.specs.Walk.{Text, one_of}
 use Rattle.san_base.specs.Limits.{IsInRange}
 use Rattle.san_base.specs.declared.limits.Limits.{Limits}
+use Rattle.san_base.specs.declared.limits.TheConstants.{MAX_WORKERS}
 use Rattle.san_words.specs.Commands.{IsTaken}
 use Rattle.san_words.specs.Options.{Row, default_in, least_of, most_of, row_of}
-use Rattle.san_words.specs.declared.options.TheConstants.{MAX_WORKERS}
 use Rattle.san_words.specs.declared.options.NumberOption.{NumberOption}
 use Rattle.san_words.specs.declared.options.NumberOption.TheVariants.{Burst, Events, Horizon, Rollbacks, Seed, Window, Workers}
 use Rattle.san_words.specs.declared.orders.Orders.{Orders}

@@ -7,8 +7,8 @@ use Rattle.clap.specs.Simple.{new_rule}
 use Rattle.clap.specs.declared.builder.action.ArgAction.TheVariants as action
 use Rattle.clap.specs.declared.builder.value_parser.ValueParser.{ValueParser}
 use Rattle.clap.specs.declared.builder.value_parser.ValueParser.TheVariants as parser
-use Rattle.san_base.specs.declared.limits.TheConstants.{MAX_BURST, MAX_EVENTS, MAX_HORIZON, MAX_ROLLBACKS, MAX_WINDOW}
-use Rattle.san_words.specs.declared.options.TheConstants.{MAX_WORKERS}
+use Rattle.san_base.specs.declared.limits.TheConstants.{MAX_BURST, MAX_EVENTS, MAX_HORIZON, MAX_ROLLBACKS, MAX_WINDOW, MAX_WORKERS}
+use Rattle.san_words.specs.declared.options.TheConstants.{DEFAULT_BURST, DEFAULT_EVENTS, DEFAULT_ROLLBACKS, DEFAULT_WINDOW, DEFAULT_WORKERS}
 use Rattle.san_words.specs.declared.options.NumberOption.{NumberOption}
 use Rattle.san_words.specs.declared.options.NumberOption.TheVariants.{Seed, Horizon, Burst, Events, Workers, Window, Rollbacks}
 use Rattle.san_words.specs.declared.options.NumberRange.{NumberRange}
@@ -30,11 +30,11 @@ optional name range n = record { name = name; range = range; default = Some n }
 abbrev pub row_of : NumberOption → Row
 row_of Seed = required (codes "seed") (Unsigned 0 18446744073709551615)
 row_of Horizon = required (codes "horizon") (Unsigned 0 MAX_HORIZON)
-row_of Burst = optional (codes "burst") (Signed 1 MAX_BURST) 1000
-row_of Events = optional (codes "events") (Unsigned 1 MAX_EVENTS) 1000000
-row_of Workers = optional (codes "workers") (Signed 0 MAX_WORKERS) 4
-row_of Window = optional (codes "window") (Signed 1 MAX_WINDOW) 16
-row_of Rollbacks = optional (codes "rollbacks") (Unsigned 0 MAX_ROLLBACKS) 10000
+row_of Burst = optional (codes "burst") (Signed 1 MAX_BURST) DEFAULT_BURST
+row_of Events = optional (codes "events") (Unsigned 1 MAX_EVENTS) DEFAULT_EVENTS
+row_of Workers = optional (codes "workers") (Signed 0 MAX_WORKERS) DEFAULT_WORKERS
+row_of Window = optional (codes "window") (Signed 1 MAX_WINDOW) DEFAULT_WINDOW
+row_of Rollbacks = optional (codes "rollbacks") (Unsigned 0 MAX_ROLLBACKS) DEFAULT_ROLLBACKS
 
 abbrev pub least_of : NumberRange → ℕ
 least_of (Unsigned least most) = least

@@ -11,6 +11,6 @@ mod tests;
 mod values;
 mod words;
 
-pub use options::{MAX_WORKERS, NumberOption, NumberRange};
+pub use options::{NumberOption, NumberRange};
 pub use orders::{Heard, Orders};
 pub use words::{hear, hear_plain};

@@ -4,10 +4,22 @@ ghost use Rattle.std.specs.Prelude.{◌≡◌, decimal};
 ghost use Rattle.san_words.specs.Options.{least_of, most_of, optional, required, row_of};
 ghost use Rattle.san_words.specs.inner.Rows.{IsRow, default_of};
 
-use san_base::{MAX_BURST, MAX_EVENTS, MAX_HORIZON, MAX_ROLLBACKS, MAX_WINDOW};
+use san_base::{MAX_BURST, MAX_EVENTS, MAX_HORIZON, MAX_ROLLBACKS, MAX_WINDOW, MAX_WORKERS};
 
-/// The most threads that run ahead, beside the caller.
-pub const MAX_WORKERS: u32 = 64;
+/// The burst limit where none is given, in completions.
+const DEFAULT_BURST: u64 = 1_000;
+
+/// The event limit where none is given, in completions.
+const DEFAULT_EVENTS: u64 = 1_000_000;
+
+/// The threads that run ahead where no number is given.
+const DEFAULT_WORKERS: u64 = 4;
+
+/// The window where none is given, in pieces.
+const DEFAULT_WINDOW: u64 = 16;
+
+/// The limit of rollbacks where none is given.
+const DEFAULT_ROLLBACKS: u64 = 10_000;
 
 /// An option of the programs, which sets one whole number.
 #[derive(Clone, Copy, Debug, PartialEq, Eq)]
@@ -106,14 +118,19 @@ pub(crate) fn row<'a>(option: NumberOption) -> OptionRow<'a>
     match option {
         NumberOption::Seed => required("seed", Unsigned(0, u64::MAX)),
         NumberOption::Horizon => required("horizon", Unsigned(0, MAX_HORIZON)),
-        NumberOption::Burst => optional("burst", Signed(1, MAX_BURST), 1_000, "1000"),
-        NumberOption::Events => optional("events", Unsigned(1, MAX_EVENTS), 1_000_000, "1000000"),
-        NumberOption::Workers => optional("workers", Signed(0, MAX_WORKERS), 4, "4"),
-        NumberOption::Window => optional("window", Signed(1, MAX_WINDOW), 16, "16"),
+        NumberOption::Burst => optional("burst", Signed(1, MAX_BURST), DEFAULT_BURST, "1000"),
+        NumberOption::Events => optional(
+            "events",
+            Unsigned(1, MAX_EVENTS),
+            DEFAULT_EVENTS,
+            "1000000",
+        ),
+        NumberOption::Workers => optional("workers", Signed(0, MAX_WORKERS), DEFAULT_WORKERS, "4"),
+        NumberOption::Window => optional("window", Signed(1, MAX_WINDOW), DEFAULT_WINDOW, "16"),
         NumberOption::Rollbacks => optional(
             "rollbacks",
             Unsigned(0, MAX_ROLLBACKS),
-            10_000,
+            DEFAULT_ROLLBACKS,
             "10000",
         ),
     }

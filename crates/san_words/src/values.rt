@@ -4,7 +4,7 @@ ghost use Rattle.std.specs.Prelude.{◌≡◌, ◌≤◌};
 ghost use Rattle.clap.specs.Words.{found_of, one_text};
 ghost use Rattle.san_base.specs.Limits.{IsInRange};
 ghost use Rattle.san_base.specs.declared.limits.TheConstants.{MAX_ROLLBACKS, MAX_WINDOW};
-ghost use Rattle.san_words.specs.declared.options.TheConstants.{MAX_WORKERS};
+ghost use Rattle.san_base.specs.declared.limits.TheConstants.{MAX_WORKERS};
 ghost use Rattle.san_words.specs.Hears.{BoundsSay, OrdersSay, PlainSay, Says, SetsNumber};
 ghost use Rattle.san_words.specs.Options.{least_of, most_of, row_of};
 

@@ -10,16 +10,16 @@ use Rattle.san_net.specs.declared.part.Span.{Span}
 use Rattle.san_net.specs.declared.part.Span.TheVariants as span
 use Rattle.san_text.specs.declared.syntax.Syntax.{Syntax}
 use Rattle.san_check.specs.Tables.{declared}
-use Rattle.san_check.specs.walk.Activity.{Acts}
+use Rattle.san_check.specs.walk.Activity.{ActNames}
 use Rattle.san_check.specs.build.Composition.{number}
 
 -- the names of the atomics, in the order of declaration
-unfoldable pub with_atomic : Acts → ModelDecl → Acts
+unfoldable pub with_atomic : ActNames → ModelDecl → ActNames
 with_atomic atomics (model.Atomic name places acts) = declared atomics name tt
 with_atomic atomics (model.Join name children shares) = atomics
 with_atomic atomics (model.Rep name of times shares) = atomics
 
-abbrev pub all_atomics : Acts → List ModelDecl → Acts
+abbrev pub all_atomics : ActNames → List ModelDecl → ActNames
 all_atomics atomics [] = atomics
 all_atomics atomics (m ∷ ms) = all_atomics (with_atomic atomics m) ms
 
@@ -28,7 +28,7 @@ span_of (decl.Over from to) = span.Over (record { 0 = from }) (record { 0 = to }
 span_of (decl.Mean from to) = span.Mean (record { 0 = from }) (record { 0 = to })
 span_of (decl.At tick) = span.At (record { 0 = tick })
 
-abbrev pub reward_of : Acts → RewardDecl → Reward
+abbrev pub reward_of : ActNames → RewardDecl → Reward
 reward_of atomics r = record { name = r.name; atomic = number atomics r.atomic; span = span_of r.span }
 
 unfoldable pub rewards_of : Syntax → List Reward

@@ -7,7 +7,7 @@ use Rattle.san_tree.specs.declared.node.Node.{Node}
 use Rattle.san_net.specs.declared.atomic.Atomic.{Atomic}
 use Rattle.san_net.specs.declared.part.Reward.{Reward}
 use Rattle.san_net.specs.declared.atomic.TheConstants.{MAX_ATOMIC_ACTS}
-use Rattle.san_check.specs.Checked.{IsRead}
+use Rattle.san_check.specs.Checked.{IsOfText}
 use Rattle.san_check.specs.walk.Model.{syntax_fault}
 use Rattle.san_check.specs.build.Composition.{nodes_of, root_of}
 use Rattle.san_check.specs.build.Atomic.{atomics_of}
@@ -17,7 +17,7 @@ use Rattle.san_check.specs.build.Cells.{elements_of}
 -- a syntax that a text parses to, that passes every check, and whose parts these are
 pub record IsModel (system : List ℕ) (atomics : List Atomic) (nodes : List Node) (root : ℕ) (rewards : List Reward) (cells : List (List (ℕ × ℕ))) : Type 0 where
   pub syntax : Syntax
-  pub read : IsRead syntax
+  pub read : IsOfText syntax
   pub passes : syntax_fault syntax ≡ None
   pub of_system : system ≡ syntax.system
   pub of_atomics : atomics ≡ atomics_of syntax

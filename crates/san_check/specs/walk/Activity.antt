@@ -93,11 +93,11 @@ abbrev pub front_entries : Option Timing → Option ℕ → Entries
 front_entries None priority = priority_entries priority
 front_entries (Some timing) priority = []
 
-abbrev pub Acts : Type 0
-Acts = Table (Unit {0})
+abbrev pub ActNames : Type 0
+ActNames = Table (Unit {0})
 
 -- the name of an activity behind n others
-unfoldable pub act_code : Places → Acts → ℕ → List ℕ → Option ℕ
+unfoldable pub act_code : Places → ActNames → ℕ → List ℕ → Option ℕ
 act_code places acts n name = code NAME_TAKEN (is_known places name || is_known acts name) else code TOO_MANY_ACTS (nat_le MAX_ATOMIC_ACTS n)
 
 -- an activity behind its name

@@ -8,7 +8,7 @@ use Rattle.san_check.specs.declared.place.Place.{Place}
 use Rattle.san_check.specs.Tables.{is_known, declared}
 use Rattle.san_check.specs.walk.Entries.{Entries, code, ◌else◌}
 use Rattle.san_check.specs.walk.Expression.{Places}
-use Rattle.san_check.specs.walk.Activity.{Acts, act_code, act_entries}
+use Rattle.san_check.specs.walk.Activity.{ActNames, act_code, act_entries}
 
 -- how many cells a place has
 abbrev pub cells_of : PlaceDecl → ℕ
@@ -47,10 +47,10 @@ all_places places [] = places
 all_places places (p ∷ ps) = all_places (with_place places p) ps
 
 -- activities behind n others
-abbrev pub acts_entries : Places → Acts → ℕ → List ActDecl → Entries
+abbrev pub acts_entries : Places → ActNames → ℕ → List ActDecl → Entries
 acts_entries places acts n [] = []
 acts_entries places acts n (a ∷ more) = act_code places acts n a.name ∷ (act_entries places a ++ acts_entries places (declared acts a.name tt) (n + 1) more)
 
-abbrev pub all_acts : Acts → List ActDecl → Acts
+abbrev pub all_acts : ActNames → List ActDecl → ActNames
 all_acts acts [] = acts
 all_acts acts (a ∷ more) = all_acts (declared acts a.name tt) more

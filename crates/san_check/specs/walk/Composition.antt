@@ -12,7 +12,7 @@ use Rattle.san_check.specs.declared.known.Known.{Known}
 use Rattle.san_check.specs.Tables.{Table, Pairs, found, is_known, declared, has_pair, all_paired}
 use Rattle.san_check.specs.walk.Entries.{Entries, code, ◌else◌}
 use Rattle.san_check.specs.walk.Expression.{Places}
-use Rattle.san_check.specs.walk.Activity.{Acts, is_outside}
+use Rattle.san_check.specs.walk.Activity.{ActNames, is_outside}
 use Rattle.san_check.specs.walk.Atomic.{places_entries, all_places, acts_entries, all_acts}
 
 abbrev pub Models : Type 0
@@ -75,7 +75,7 @@ length_differs (Some first) None = false
 length_differs None place = false
 
 -- the child of a part, where these stand in earlier parts of the share
-unfoldable pub part_code : Children → Acts → List ℕ → Option ℕ
+unfoldable pub part_code : Children → ActNames → List ℕ → Option ℕ
 part_code children earlier child = code UNKNOWN_CHILD (not (is_known children child)) else code CHILD_NAMED_TWICE (is_known earlier child)
 
 -- the place of a part, where these parts stand in earlier shares, and the share's first part names this place
@@ -83,7 +83,7 @@ unfoldable pub shared_code : Children → Pairs → Option Place → List ℕ ×
 shared_code children taken first part =
     code PLACE_NOT_SHOWN (is_none (part_place children part)) else (code PLACE_TAKEN (has_pair taken part) else (code INITIALS_DIFFER (initial_differs first (part_place children part)) else code LENGTHS_DIFFER (length_differs first (part_place children part))))
 
-abbrev pub parts_entries : Children → Pairs → Option Place → Acts → List (List ℕ × List ℕ) → Entries
+abbrev pub parts_entries : Children → Pairs → Option Place → ActNames → List (List ℕ × List ℕ) → Entries
 parts_entries children taken first earlier [] = []
 parts_entries children taken first earlier (p ∷ ps) = part_code children earlier p.0 ∷ (shared_code children taken first p ∷ parts_entries children taken first (declared earlier p.0 tt) ps)
 

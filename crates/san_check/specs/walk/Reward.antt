@@ -13,11 +13,11 @@ use Rattle.san_base.specs.declared.limits.TheConstants.{MAX_HORIZON}
 use Rattle.san_check.specs.Tables.{is_known, declared}
 use Rattle.san_check.specs.walk.Entries.{Entries, code, ◌else◌}
 use Rattle.san_check.specs.walk.Expression.{Places, first_entries, expr_entries}
-use Rattle.san_check.specs.walk.Activity.{Acts}
+use Rattle.san_check.specs.walk.Activity.{ActNames}
 use Rattle.san_check.specs.walk.Composition.{Models, known_as}
 
 -- the name of a reward behind n others
-unfoldable pub reward_code : Acts → ℕ → List ℕ → Option ℕ
+unfoldable pub reward_code : ActNames → ℕ → List ℕ → Option ℕ
 reward_code rewards n name = code NAME_TAKEN (is_known rewards name) else code TOO_MANY_REWARDS (nat_le MAX_REWARDS n)
 
 -- the end of an interval
@@ -35,14 +35,14 @@ is_at (span.Mean from to) = false
 is_at (span.At tick) = true
 
 -- the activity of an impulse, in a term behind n others
-unfoldable pub impulse_code : Acts → Bool → ℕ → List ℕ → Option ℕ
+unfoldable pub impulse_code : ActNames → Bool → ℕ → List ℕ → Option ℕ
 impulse_code acts at n name = code UNKNOWN_ACTIVITY (not (is_known acts name)) else (code IMPULSE_AT_A_TICK at else code TOO_MANY_TERMS (nat_le MAX_TERMS n))
 
-unfoldable pub term_entries : Places → Acts → Bool → ℕ → TermDecl → Entries
+unfoldable pub term_entries : Places → ActNames → Bool → ℕ → TermDecl → Entries
 term_entries places acts at n (term.Rate e) = first_entries places e (nat_le MAX_TERMS n)
 term_entries places acts at n (term.Impulse act e) = impulse_code acts at n act ∷ expr_entries places e
 
-abbrev pub terms_entries : Places → Acts → Bool → ℕ → List TermDecl → Entries
+abbrev pub terms_entries : Places → ActNames → Bool → ℕ → List TermDecl → Entries
 terms_entries places acts at n [] = []
 terms_entries places acts at n (t ∷ ts) = term_entries places acts at n t ++ terms_entries places acts at (n + 1) ts
 
@@ -50,6 +50,6 @@ terms_entries places acts at n (t ∷ ts) = term_entries places acts at n t ++ t
 unfoldable pub reward_entries : Models → RewardDecl → Entries
 reward_entries models r = code NO_ATOMIC (not (known_as models r.atomic).atomic) ∷ (span_entries r.span ++ terms_entries (known_as models r.atomic).places (known_as models r.atomic).acts (is_at r.span) 0 r.terms)
 
-abbrev pub rewards_entries : Models → Acts → ℕ → List RewardDecl → Entries
+abbrev pub rewards_entries : Models → ActNames → ℕ → List RewardDecl → Entries
 rewards_entries models rewards n [] = []
 rewards_entries models rewards n (r ∷ rs) = reward_code rewards n r.name ∷ (reward_entries models r ++ rewards_entries models (declared rewards r.name tt) (n + 1) rs)

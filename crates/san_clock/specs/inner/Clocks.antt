@@ -13,13 +13,13 @@ use Rattle.san_clock.specs.Rows.{timer_in}
 use Rattle.san_clock.specs.declared.row.Timer.{Timer}
 
 -- one activity's timer, if it has one, and the number of its delay draws
-abbrev pub Clock : Type 0
-Clock = Option Timer × ℕ
+abbrev pub ClockValue : Type 0
+ClockValue = Option Timer × ℕ
 
-abbrev pub clock_in : Clock → law.Clock
+abbrev pub clock_in : ClockValue → law.Clock
 clock_in c = (option_map timer_in c.0, c.1)
 
-abbrev pub clock_by : Result Clock Trap → Result law.Clock Trap
+abbrev pub clock_by : Result ClockValue Trap → Result law.Clock Trap
 clock_by (Ok c) = Ok (clock_in c)
 clock_by (Err trap) = Err trap
 
@@ -34,11 +34,11 @@ pair_below None k = true
 pair_below (Some pair) k = places_below pair.0 k && places_below pair.1 k
 
 -- an activity's renewal in a leaf's values, by what was last seen
-abbrev pub renewed_in : (ℕ → ℕ) → ℕ → List ℕ → List ℕ → Activity → Clock → Result law.Clock Trap
+abbrev pub renewed_in : (ℕ → ℕ) → ℕ → List ℕ → List ℕ → Activity → ClockValue → Result law.Clock Trap
 renewed_in draw time seen values a c = law.renewed_act draw time seen values (activity_in [] 0 a) (kind_in a.kind) (option_map timer_in c.0) c.1
 
 -- a clock as it is, or one activated anew
-abbrev pub anew_by : Result Bool Trap → Clock → Result law.Clock Trap → Result law.Clock Trap
+abbrev pub anew_by : Result Bool Trap → ClockValue → Result law.Clock Trap → Result law.Clock Trap
 anew_by (Ok true) c go = go
 anew_by (Ok false) c go = Ok (clock_in c)
 anew_by (Err trap) c go = Err trap

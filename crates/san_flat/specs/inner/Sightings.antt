@@ -11,14 +11,14 @@ use Rattle.san_net.specs.Numbering.{AreRecorded, firsts, number, repeated}
 use Rattle.san_tree.specs.declared.instance.Instance.{Instance}
 
 -- the different homes in order, how often each was seen, and the initial value of the first cell there
-pub record IsSeen (homes : List CellHome) (initial : List ℕ) (s : Seen) : Type 0 where
+pub record HasSeen (homes : List CellHome) (initial : List ℕ) (s : Seen) : Type 0 where
   pub recorded : AreRecorded same homes (map home_of_key s.homes.keys) s.counts.items
   pub values : s.values.items ≡ map (value_at homes initial) (map home_of_key s.homes.keys)
   pub even : length homes ≡ length initial
 
 -- either all fit, and were seen, or there are more different homes than a network has places
 abbrev pub Sees : Bool → List CellHome → List ℕ → Seen → Type 0
-Sees true homes initial s = IsSeen homes initial s × (length s.homes.keys ≤ MAX_PLACES)
+Sees true homes initial s = HasSeen homes initial s × (length s.homes.keys ≤ MAX_PLACES)
 Sees false homes initial s = MAX_PLACES < length (firsts same homes)
 
 -- all were seen, or there are too many

@@ -3,9 +3,9 @@ use Rattle.std.specs.Prelude.{ℕ, ◌≡◌, List, Option, Result, Ok, Err}
 use Rattle.san_base.specs.declared.status.Status.{Status}
 use Rattle.san_base.specs.declared.status.Status.TheVariants as status
 use Rattle.san_text.specs.declared.text.Refusal.{Refusal}
-use Rattle.san_serve.specs.Answers.{Answers, IsRefused}
+use Rattle.san_serve.specs.Answers.{StatusSays, IsRefused}
 use Rattle.san_serve.specs.Notes.{refusal_line, status_line}
-use Rattle.san_serve.specs.Tasks.{Meaning}
+use Rattle.san_serve.specs.Tasks.{TaskMeaning}
 use Rattle.san_serve.specs.declared.task.Served.{Served}
 use Rattle.san_serve.specs.declared.task.Served.TheVariants as served
 
@@ -18,10 +18,10 @@ answer_of served.NoMemory = Ok status.NoMemory
 answer_of (served.Refused refusal) = Err refusal
 
 -- no source comes to the status of words that aren't taken, nor to that of a refusal without one
-abbrev pub Serves : Meaning → Result Status Refusal → Option (List ℕ) → Option (List ℕ) → Option (List ℕ) → Option (List ℕ) → Type 0
+abbrev pub Serves : TaskMeaning → Result Status Refusal → Option (List ℕ) → Option (List ℕ) → Option (List ℕ) → Option (List ℕ) → Type 0
 Serves m (Ok status.Words) left rest old new = ⊥
 Serves m (Ok status.Refused) left rest old new = ⊥
-Serves m (Ok s) left rest old new = Answers m s left rest old new
+Serves m (Ok s) left rest old new = StatusSays m s left rest old new
 Serves m (Err refusal) left rest old new = IsRefused m.bound m.refuses left rest refusal × (new ≡ old)
 
 -- by an answer, which status and which line it comes to: memory may run out for the line of a refusal

@@ -5,10 +5,10 @@ use Rattle.san_tree.specs.declared.node.Node.TheVariants.{Leaf, Join, Rep}
 use Rattle.san_tree.specs.Places.{names, node_at}
 
 -- a part by its node, the child and the child's place
-abbrev pub Part : Type 0
-Part = ℕ × ℕ × ℕ
+abbrev pub SharePart : Type 0
+SharePart = ℕ × ℕ × ℕ
 
-abbrev pub same_part : Part → Part → Bool
+abbrev pub same_part : SharePart → SharePart → Bool
 same_part a b = (nat_eq a.0 b.0 && nat_eq a.1 b.1) && nat_eq a.2 b.2
 
 -- the first where there is one
@@ -29,5 +29,5 @@ known_as (Join _ shares) child place = position (names child place) shares
 known_as (Rep _ _ shares) child place = cond (nat_eq 0 child) (position (λ p. nat_eq p place) shares) None
 
 -- a table of the first nodes
-abbrev pub Knows : List Node → ℕ → (Part → Option ℕ) → Type 0
+abbrev pub Knows : List Node → ℕ → (SharePart → Option ℕ) → Type 0
 Knows nodes n found = (k c p : ℕ) → found (k, c, p) ≡ cond (nat_lt k n) (known_as (node_at nodes k) c p) None

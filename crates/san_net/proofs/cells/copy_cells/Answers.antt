@@ -2,7 +2,7 @@ use Rattle.std.proofs.Common.{arith, ◌∙◌, sym, subst, map, ℕ}
 use Rattle.std.proofs.lemmas.List.{length-map, length-set}
 use Rattle.san_law.specs.Lawful.{AllBelow}
 use Rattle.san_law.specs.State.{gather}
-use Rattle.san_net.specs.Cells.{IsOver}
+use Rattle.san_net.specs.Cells.{LiesOver}
 use Rattle.san_net.specs.Laid.{place_of}
 use Rattle.san_net.proofs.CellLemmas.{cell_below, cells_are, one_put, put_back, rest_stays, value_at}
 use Rattle.san_net.proofs.cells.copy_cells.Goals as goal
@@ -16,7 +16,7 @@ bounds-to-at c =
 
 pub cells-preserved : goal.cells-preserved
 cells-preserved c =
-    let over : IsOver (map place_of c.args.slots.now) c.args.to.now = record {
+    let over : LiesOver (map place_of c.args.slots.now) c.args.to.now = record {
       apart = c.requires.over.apart;
       within = subst (λ (n : ℕ). AllBelow (map place_of c.args.slots.now) n) (sym c.requires.sized) c.requires.over.within;
     } in
