@@ -1,4 +1,5 @@
 -- Markings that are equal where a leaf's activities hang are alike for it.
+use Rattle.san_base.proofs.NumberTests.{some_same}
 use Rattle.std.proofs.Common.{ℕ, zero, suc, ◌+◌, ◌≡◌, ◌∙◌, ◌||◌, ◌&&◌, ap, sym, refl, subst, arith, List, [], ◌∷◌, Option, Some, None, Bool, true, false, nat_lt, cond, slice_index, slice_index_or}
 use Rattle.std.specs.Prelude.{slice_get, IsTrue}
 use Rattle.san_expr.specs.Concerns.{AreEqualOn}
@@ -26,13 +27,10 @@ use Rattle.san_seq.specs.inner.Known.{AreSameOn}
 use Rattle.san_seq.specs.inner.Nexts.{first_of_part}
 use Rattle.san_seq.specs.inner.Wakes.{act_cells, concerned, instant_cells, timer_cells}
 
-same_of : {X : Type 0} (x y : X) → (let o : Option X = Some x in o) ≡ Some y → x ≡ y
-same_of x y e = cc
-
 -- an activity's cells are among those of all
 one_of_all : (x : Concern) (acts : List Named) (k : ℕ) (a : Named) (q : ℕ) → slice_get acts k ≡ Some a → IsTrue (act_cells x a.1 q) → IsTrue (concerned x acts q)
 one_of_all x [] k a q is h = absurd cc
-one_of_all x (b ∷ acts) zero a q is h = ap (λ (t : Bool). t || concerned x acts q) (ap (λ (y : Named). act_cells x y.1 q) (same_of b a is) ∙ h)
+one_of_all x (b ∷ acts) zero a q is h = ap (λ (t : Bool). t || concerned x acts q) (ap (λ (y : Named). act_cells x y.1 q) (some_same b a is) ∙ h)
 one_of_all x (b ∷ acts) (suc k) a q is h = later (act_cells x b.1 q) (one_of_all x acts k a q is h)
   where
     later : (t : Bool) → IsTrue (concerned x acts q) → IsTrue (t || concerned x acts q)
@@ -88,7 +86,7 @@ found_alike part v w (x ∷ xs) all =
 
 activity_at : (terms : List ImpulseTerm) (n : ℕ) (acts : List Named) (k : ℕ) (a : Named) (v : List ℕ) → slice_get acts k ≡ Some a → (slice_index_or (activities_from terms n acts) k leaf.no_activity).enabled v ≡ enabled_in a.1 v
 activity_at terms n [] k a v is = absurd cc
-activity_at terms n (b ∷ acts) zero a v is = ap (λ (y : Named). enabled_in y.1 v) (same_of b a is)
+activity_at terms n (b ∷ acts) zero a v is = ap (λ (y : Named). enabled_in y.1 v) (some_same b a is)
 activity_at terms n (b ∷ acts) (suc k) a v is = activity_at terms (suc n) acts k a v is
 
 instant_part : (c : ActKind) (a : Activity) → IsInstant c → (q : ℕ) → IsTrue (enabling_mentions a q) → IsTrue (instant_cells c a q)

@@ -3,12 +3,12 @@ use Rattle.std.proofs.Common.{ℕ, ◌≡◌, ◌∙◌, ap, sym, subst, List, �
 use Rattle.std.specs.Result.{is_err}
 use Rattle.std.proofs.Math.Seq.{take-append_seam}
 use Rattle.san_base.specs.declared.ending.Trap.{Trap}
-use Rattle.san_expr.specs.Meaning.{Outcome}
+use Rattle.san_expr.specs.Meaning.{Evaluation}
 use Rattle.san_expr.specs.Meets.{Meets}
 use Rattle.san_law.proofs.Places.{scatter_length, scatter_same, scatter_twice}
 use Rattle.san_law.specs.Lawful.{AllBelow}
 use Rattle.san_law.specs.State.{gather, scatter}
-use Rattle.san_net.specs.Cells.{IsOver}
+use Rattle.san_net.specs.Cells.{LiesOver}
 use Rattle.san_net.specs.Completion.{completion_of}
 use Rattle.san_net.specs.Laid.{place_of, places_of}
 use Rattle.san_net.specs.Leaf.{completed_in, effected_by}
@@ -20,11 +20,11 @@ use Rattle.san_seq.specs.inner.Views.{Seen, view_state_of}
 use Rattle.san_seq.proofs.ViewLemmas.{called}
 
 module _ (places m after : List ℕ) where
-  good : (r : Result ℕ Trap) (o : Outcome ℕ) (final : List ℕ) → after ≡ scatter places o.left m → is_err r ≡ false → final ≡ after → (r, final) ≡ left_by places m (effected_by o r)
+  good : (r : Result ℕ Trap) (o : Evaluation ℕ) (final : List ℕ) → after ≡ scatter places o.left m → is_err r ≡ false → final ≡ after → (r, final) ≡ left_by places m (effected_by o r)
   good (Ok case) o final left none is = ap (λ (n : List ℕ). (let r : Result ℕ Trap = Ok case in r, n)) (is ∙ left)
   good (Err trap) o final left none is = absurd cc
 
-  bad : (r : Result ℕ Trap) (o : Outcome ℕ) (final : List ℕ) → after ≡ scatter places o.left m → is_err r ≡ true → final ≡ scatter places (gather places m) after
+  bad : (r : Result ℕ Trap) (o : Evaluation ℕ) (final : List ℕ) → after ≡ scatter places o.left m → is_err r ≡ true → final ≡ scatter places (gather places m) after
       → (r, final) ≡ left_by places m (effected_by o r)
   bad (Ok case) o final left some is = absurd cc
   bad (Err trap) o final left some is =
@@ -33,7 +33,7 @@ module _ (places m after : List ℕ) where
 
 module _ (p : Part) (slots : List Slot) (m : List ℕ) (s t : Seen) (slot : slots ≡ p.slots) (places : s.places ≡ map place_of slots) (marking : s.marking ≡ m) (a : Activity) (u : ℕ)
     (r : Result ℕ Trap) (did : Meets (view_state_of s) (view_state_of t) (completion_of u a) r) where
-  abbrev done : Outcome ℕ
+  abbrev done : Evaluation ℕ
   done = completion_of u a (gather (places_of p) m)
 
   places_are : s.places ≡ places_of p
@@ -55,9 +55,9 @@ module _ (p : Part) (slots : List Slot) (m : List ℕ) (s t : Seen) (slot : slot
   effected : left_by (places_of p) m (effected_by done r) ≡ left_by (places_of p) m (completed_in a u (gather (places_of p) m))
   effected = ap (λ (x : Result ℕ Trap). left_by (places_of p) m (effected_by done x)) (sym answer)
 
-  pub over_after : (n : List ℕ) → n ≡ t.marking → IsOver (places_of p) m → IsOver (map place_of slots) n
+  pub over_after : (n : List ℕ) → n ≡ t.marking → LiesOver (places_of p) m → LiesOver (map place_of slots) n
   over_after n is over =
-      subst (λ (ps : List ℕ). IsOver ps n) (sym (ap (map place_of) slot)) (record {
+      subst (λ (ps : List ℕ). LiesOver ps n) (sym (ap (map place_of) slot)) (record {
         apart = over.apart;
         within = subst (λ (k : ℕ). AllBelow (places_of p) k) (sym (ap length (is ∙ after) ∙ scatter_length (places_of p) done.left m)) over.within;
       })

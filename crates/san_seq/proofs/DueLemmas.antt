@@ -1,7 +1,7 @@
 -- The least timer: of a row from the last activity to the first, of all leaves by a tree over their keys.
-use Rattle.std.proofs.Common.{ℕ, zero, suc, ◌<◌, ◌≡◌, ◌∙◌, ap, sym, refl, arith, Bool, true, false, nat_lt, cond, List, [], ◌∷◌, length, map, drop, replicate, Option, Some, None, slice_index_or, slice_set}
+use Rattle.std.proofs.Common.{ℕ, zero, suc, ◌<◌, ◌≡◌, ◌≢◌, ◌⊎◌, inl, inr, ◌∙◌, ap, sym, refl, arith, Bool, true, false, nat_lt, cond, List, [], ◌∷◌, length, map, drop, replicate, Option, Some, None, slice_index_or, slice_set}
 use Rattle.std.specs.Option.{option_map}
-use Rattle.std.proofs.lemmas.List.{get_or-set_same, length-set, map-set, set-get_or}
+use Rattle.std.proofs.lemmas.List.{get_or-set_other, get_or-set_same, length-map, length-set, map-set, set-get_or, set-set}
 use Rattle.san_clock.specs.Rows.{timer_in}
 use Rattle.san_clock.specs.declared.row.Timer.{Timer}
 use Rattle.san_law.specs.Net.{Row, least_timer, least_timer_from, no_row, without_timer}
@@ -9,7 +9,9 @@ use Rattle.san_law.specs.Renewal as law
 use Rattle.san_law.specs.State.{blank_row, repeated}
 use Rattle.san_net.specs.declared.part.Part.{Part}
 use Rattle.san_winner.specs.Least as tree
-use Rattle.san_seq.specs.inner.Dues.{first_due}
+use Rattle.san_base.specs.declared.numbers.LeafId.{LeafId}
+use Rattle.std.proofs.lemmas.Bool.{cases_eq}
+use Rattle.san_seq.specs.inner.Dues.{AreDues, first_due}
 use Rattle.san_seq.specs.inner.Openings.{rows_of}
 use Rattle.san_seq.specs.inner.Rows.{row_at}
 use Rattle.san_seq.proofs.RangeLemmas.{due_is, due_within}
@@ -94,11 +96,7 @@ keys_begin ps keys count rows is many begun = is ∙ ap (λ (k : ℕ). (let ks :
 pub key_kept : (keys : List (Option ℕ)) (j : ℕ) (key due : Option ℕ) → key ≡ slice_index_or keys j None → key ≡ due → keys ≡ slice_set keys j due
 key_kept keys j key due is same = sym (set-get_or keys j None) ∙ ap (slice_set keys j) (sym is ∙ same)
 
--- where a leaf's row and its key are set, the keys are those of the rows
-pub keys_set : (keys : List (Option ℕ)) (rows : List Row) (j : ℕ) (row : Row) → keys ≡ map first_due rows → slice_set keys j (first_due row) ≡ map first_due (slice_set rows j row)
-keys_set keys rows j row are = ap (λ (ks : List (Option ℕ)). slice_set ks j (first_due row)) are ∙ sym (map-set first_due rows j row)
-
--- so they are where the row keeps its timers
+-- the keys are those of the rows still where a row keeps its timers
 same_due : (new old : Row) → new.timers ≡ old.timers → first_due new ≡ first_due old
 unfolding least_timer
 same_due new old e = ap (λ (ts : List (Option Rattle.san_law.specs.Net.Timer)). option_map (λ (d : ℕ × ℕ). d.0) (least_timer_from 0 ts)) e
@@ -107,6 +105,52 @@ pub keys_stay : (keys : List (Option ℕ)) (rows : List Row) (j : ℕ) (old new 
 keys_stay keys rows j old new are is same =
     are ∙ ap (map first_due) (sym (put_same rows j old old is)) ∙ map-set first_due rows j old
     ∙ ap (slice_set (map first_due rows) j) (sym (same_due new old same)) ∙ sym (map-set first_due rows j new)
+
+-- the keys, one of which may be behind
+pub dues_sized : (behind : Option LeafId) (dues : List (Option ℕ)) (rows : List Row) → AreDues behind dues rows → length dues ≡ length rows
+dues_sized None dues rows is = ap length is ∙ length-map rows first_due
+dues_sized (Some leaf) dues rows is = sym (length-set dues leaf.0 (first_due (row_at rows leaf.0))) ∙ ap length is.1 ∙ length-map rows first_due
+
+-- those of the leaves but one are right
+abbrev pub AreOthers : ℕ → List (Option ℕ) → List Row → Type 0
+AreOthers j dues rows = (due : Option ℕ) → slice_set dues j due ≡ slice_set (map first_due rows) j due
+
+pub others_behind : (leaf : LeafId) (j : ℕ) (dues : List (Option ℕ)) (rows : List Row) → AreDues (Some leaf) dues rows → leaf.0 ≡ j → AreOthers j dues rows
+others_behind leaf j dues rows is same due =
+    sym (set-set dues j (first_due (row_at rows leaf.0)) due)
+    ∙ ap (λ (k : ℕ). slice_set (slice_set dues k (first_due (row_at rows leaf.0))) j due) (sym same)
+    ∙ ap (λ (ks : List (Option ℕ)). slice_set ks j due) is.1
+
+pub others_right : (j : ℕ) (dues : List (Option ℕ)) (rows : List Row) → dues ≡ map first_due rows → AreOthers j dues rows
+others_right j dues rows is due = ap (λ (ks : List (Option ℕ)). slice_set ks j due) is
+
+pub others_sized : (j : ℕ) (dues : List (Option ℕ)) (rows : List Row) → AreOthers j dues rows → length dues ≡ length rows
+others_sized j dues rows others = sym (length-set dues j None) ∙ ap length (others None) ∙ length-set (map first_due rows) j None ∙ length-map rows first_due
+
+-- then all are once its own is set
+pub dues_set : (j : ℕ) (dues : List (Option ℕ)) (rows : List Row) (row : Row) → AreOthers j dues rows → slice_set dues j (first_due row) ≡ map first_due (slice_set rows j row)
+dues_set j dues rows row others = others (first_due row) ∙ sym (map-set first_due rows j row)
+
+-- and while it isn't, it is behind
+pub dues_behind : (leaf : LeafId) (dues : List (Option ℕ)) (rows : List Row) (row : Row) → leaf.0 < length rows → AreOthers leaf.0 dues rows → AreDues (Some leaf) dues (slice_set rows leaf.0 row)
+dues_behind leaf dues rows row h others = (
+  omega (arith, h, length-set rows leaf.0 row),
+  ap (λ (r : Row). slice_set dues leaf.0 (first_due r)) (get_or-set_same rows leaf.0 row no_row h) ∙ dues_set leaf.0 dues rows row others,
+)
+
+-- where a row keeps its timers they stay
+pub dues_stay : (behind : Option LeafId) (dues : List (Option ℕ)) (rows : List Row) (j : ℕ) (old new : Row) → AreDues behind dues rows → j < length rows → old ≡ slice_index_or rows j old → new.timers ≡ old.timers → AreDues behind dues (slice_set rows j new)
+dues_stay None dues rows j old new are h is same = keys_stay dues rows j old new are is same
+dues_stay (Some leaf) dues rows j old new are h is same = (
+  omega (arith, are.0, length-set rows j new),
+  ap (slice_set dues leaf.0) (key (cases_eq leaf.0 j)) ∙ are.1 ∙ keys_stay (map first_due rows) rows j old new refl is same,
+)
+  where
+    key : (leaf.0 ≡ j) ⊎ (leaf.0 ≢ j) → first_due (row_at (slice_set rows j new) leaf.0) ≡ first_due (row_at rows leaf.0)
+    key (inl e) =
+        ap (λ (k : ℕ). first_due (row_at (slice_set rows j new) k)) e ∙ ap first_due (get_or-set_same rows j new no_row h) ∙ same_due new old same
+        ∙ ap first_due (is ∙ any_row rows j old no_row h) ∙ ap (λ (k : ℕ). first_due (row_at rows k)) (sym e)
+    key (inr n) = ap first_due (get_or-set_other rows j leaf.0 new no_row n)
 
 -- a leaf's row that is lent and put back
 module _ (rows now : List Row) (j : ℕ) (old new : Row) (is : old ≡ slice_index_or rows j old) (same : rows ≡ now) (h : j < length now) where

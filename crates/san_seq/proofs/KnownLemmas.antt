@@ -248,7 +248,7 @@ module _ (n : Network) (draw : ℕ → ℕ → ℕ) (bounds : Bounds) (w : Woken
     timers = timers_after own timers;
   }
 
--- before the first step all leaves are stale
+-- before the first step all timers are stale, and no place has changed
 all_up : (many j : ℕ) → (let xs : List Bool = replicate many true in slice_get xs j) ≡ Some false → {A : Type 0} → A
 all_up zero j e = cc
 all_up (suc many) zero e = cc
@@ -261,12 +261,12 @@ length_replicate (suc k) a = ap suc (length_replicate k a)
 both : (b : Bool) → b ≡ true → b ≡ false → {A : Type 0} → A
 both b e f = cc
 
-pub all_are_stale : (n : Network) (w : Woken) (stale : Stale) (s : State) → AreWoken n w → stale.settled ≡ false → stale.timers ≡ replicate (length n.parts) true → stale.places ≡ replicate (length n.initial) true
-    → AreIdle n w stale s
-all_are_stale n w stale s woken a b c = record {
+pub all_are_stale : (n : Network) (w : Woken) (stale : Stale) (s : State) → AreWoken n w → stale.settled ≡ false → stale.timers ≡ replicate (length n.parts) true → stale.places ≡ replicate (length n.initial) false
+    → s.stable ≡ s.marking → AreIdle n w stale s
+all_are_stale n w stale s woken a b c same = record {
   woken = woken;
-  flags = record { timers = ap length b ∙ length_replicate (length n.parts) true; places = ap length c ∙ length_replicate (length n.initial) true };
-  places = λ q down. all_up (length n.initial) q (ap (λ (xs : List Bool). slice_get xs q) (sym c) ∙ down);
+  flags = record { timers = ap length b ∙ length_replicate (length n.parts) true; places = ap length c ∙ length_replicate (length n.initial) false };
+  places = λ q down. ap (λ (xs : List ℕ). slice_index xs q) same;
   settled = λ e. both stale.settled e a;
   timers = λ j p at down. all_up (length n.parts) j (ap (λ (xs : List Bool). slice_get xs j) (sym b) ∙ down);
 }

@@ -2,6 +2,7 @@ pub mod AlikeLemmas
 pub mod AnswerLemmas
 pub mod CompletionLemmas
 pub mod DueLemmas
+pub mod FlaggedLemmas
 pub mod KnownLemmas
 pub mod LeafCompletionLemmas
 pub mod LimitLemmas
@@ -12,6 +13,7 @@ pub mod OpeningLemmas
 pub mod PublicAnswers
 pub mod RangeLemmas
 pub mod ReachLemmas
+pub mod RenewalLemmas
 pub mod RowLemmas
 pub mod RunLemmas
 pub mod RunningLemmas

@@ -5,11 +5,11 @@ use Rattle.std.proofs.lemmas.Bool.{cases_eq}
 use Rattle.std.proofs.lemmas.List.{get_or-set_same, get_or-set_other, length-set}
 use Rattle.san_base.specs.declared.ending.Trap.{Trap}
 use Rattle.san_base.specs.declared.limits.Limits.{Limits}
-use Rattle.san_law.proofs.Places.{scatter_from_length, scatter_length}
+use Rattle.san_law.proofs.Places.{scatter_length}
 use Rattle.san_law.specs.Activity.{Effected, Part, activity_of, case_stream, completed, done_by, with_case}
 use Rattle.san_law.specs.Net.{Done, Local, Net, Row, no_row, without_timer}
 use Rattle.san_law.specs.Renewal.{Due}
-use Rattle.san_law.specs.State.{State, local_of, scatter, scatter_from, slots_of}
+use Rattle.san_law.specs.State.{State, local_of, slots_of}
 use Rattle.san_law.specs.Step as law
 use Rattle.san_law.specs.Network.{part_at}
 use Rattle.san_net.specs.Network.{Network, net_of, network_in}

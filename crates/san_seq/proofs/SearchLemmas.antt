@@ -1,5 +1,6 @@
 -- The first leaf that has something is found among those that hang on a place which has changed.
-use Rattle.std.proofs.Common.{ℕ, zero, suc, ◌+◌, ◌<◌, ◌≤◌, ◌≡◌, ◌∙◌, ◌⊎◌, inl, inr, ap, sym, refl, subst, arith, List, [], ◌∷◌, length, drop, Option, Some, Bool, false, slice_index, slice_index_or}
+use Rattle.san_base.proofs.NumberTests.{some_same}
+use Rattle.std.proofs.Common.{ℕ, zero, suc, ◌+◌, ◌<◌, ◌≤◌, ◌≡◌, ◌∙◌, ◌⊎◌, inl, inr, ap, sym, refl, subst, arith, List, [], ◌∷◌, length, drop, Option, Some, Bool, true, false, slice_index, slice_index_or}
 use Rattle.std.specs.Prelude.{slice_get}
 use Rattle.std.proofs.lemmas.Bool.{cases_lt}
 use Rattle.san_base.specs.declared.ending.Trap.{Trap}
@@ -11,15 +12,14 @@ use Rattle.san_net.specs.Laid.{IsNetwork, places_of}
 use Rattle.san_net.specs.Network.{Network}
 use Rattle.san_net.specs.declared.part.Part.{Part}
 use Rattle.san_seq.specs.declared.next.First.{First}
+use Rattle.san_seq.specs.inner.Flagged.{AreListed}
 use Rattle.san_seq.specs.inner.Firsts.{AreEarlier, IsEarlier, IsFirst}
 use Rattle.san_seq.specs.inner.Known.{AreSettled, HaveSame}
 use Rattle.san_seq.specs.inner.Nexts.{first_by, first_from, first_of_part, next_in}
 use Rattle.san_seq.specs.inner.Wakes.{AreWoken, Stands, Woken}
 use Rattle.san_seq.proofs.AlikeLemmas.{nothing_alike}
+use Rattle.san_seq.proofs.FlaggedLemmas.{up_or_down}
 use Rattle.san_seq.proofs.NextLemmas.{cut, none_left, one_leaf, skipped_to}
-
-same_of : {X : Type 0} (x y : X) → (let o : Option X = Some x in o) ≡ Some y → x ≡ y
-same_of x y e = cc
 
 completes_apart : (j k : ℕ) → law.Completes j k ≡ law.Stable → ⊥
 completes_apart j k e = cc
@@ -53,21 +53,34 @@ earlier_more parts m leaves k x at none before i leaf h is = by_case (cases_lt i
     by_case (inl u) = before i leaf u is
     by_case (inr u) =
         let here : i ≡ k = omega (arith, h, u) in
-        let same : x ≡ leaf = same_of x leaf (sym at ∙ ap (slice_get leaves) (sym here) ∙ is) in
+        let same : x ≡ leaf = some_same x leaf (sym at ∙ ap (slice_get leaves) (sym here) ∙ is) in
         subst (λ (y : LeafId). first_by m (slice_get parts y.0) ≡ Nothing) same (nothing_of x.0 (first_by m (slice_get parts x.0)) none)
 
 -- a place's leaves, by their list
 pub earlier_at : (parts : List Part) (w : Woken) (stable m : List ℕ) (many q : ℕ) (leaves : List LeafId) → leaves ≡ Rattle.san_seq.specs.inner.Wakes.leaves_at w.instants q → AreEarlier parts m leaves many → IsEarlier parts w stable m many q
 earlier_at parts w stable m many q leaves is none j there h = inr (none there.0 (record { 0 = j }) (ap (λ (ls : List LeafId). slice_get ls there.0) is ∙ there.1) h)
 
--- and where no flag is up any more, all
-pub earlier_whole : (parts : List Part) (w : Woken) (stable m : List ℕ) (flags : List Bool) (from many : ℕ) → HaveSame flags stable m → ((i : ℕ) → from ≤ i → i < length flags → slice_get flags i ≡ Some false)
-    → ((q : ℕ) → q < from → IsEarlier parts w stable m many q) → (q : ℕ) → q < length flags → IsEarlier parts w stable m many q
-earlier_whole parts w stable m flags from many same down before q h j there l = by_case (cases_lt q from)
+-- and of all places, where those of the flagged ones are known
+pub earlier_whole : (parts : List Part) (w : Woken) (stable m : List ℕ) (flags : List Bool) (list : List ℕ) (k many : ℕ) → HaveSame flags stable m → AreListed list flags → length list ≤ k
+    → ((i q : ℕ) → i < k → slice_get list i ≡ Some q → IsEarlier parts w stable m many q) → (q : ℕ) → q < length flags → IsEarlier parts w stable m many q
+earlier_whole parts w stable m flags list k many same is long before q h j there l = by_flag (up_or_down flags q h)
   where
-    by_case : (q < from) ⊎ (from ≤ q) → (slice_index stable q ≡ slice_index m q) ⊎ (first_by m (slice_get parts j) ≡ Nothing)
-    by_case (inl u) = before q u j there l
-    by_case (inr u) = inl (same q (down q u h))
+    by_flag : (slice_get flags q ≡ Some true) ⊎ (slice_get flags q ≡ Some false) → (slice_index stable q ≡ slice_index m q) ⊎ (first_by m (slice_get parts j) ≡ Nothing)
+    by_flag (inl up) = let at = is.each q up in before at.0 q (omega (arith, long, Rattle.std.proofs.lemmas.Option.slice_get_within list at.0 q at.1)) at.1 j there l
+    by_flag (inr down) = inl (same q down)
+
+-- one more of a list's front
+pub front_more : (P : ℕ → Type 0) (list : List ℕ) (k at : ℕ) → slice_get list k ≡ Some at → P at → ((i q : ℕ) → i < k → slice_get list i ≡ Some q → P q) → (i q : ℕ) → i < k + 1 → slice_get list i ≡ Some q → P q
+front_more P list k at here it before i q u is = by_case (cases_lt i k)
+  where
+    number_of : (x y : ℕ) → (let o : Option ℕ = Some x in o) ≡ Some y → x ≡ y
+    number_of x y e = cc
+
+    by_case : (i < k) ⊎ (k ≤ i) → P q
+    by_case (inl low) = before i q low is
+    by_case (inr high) =
+        let same : i ≡ k = omega (arith, u, high) in
+        subst P (number_of at q (sym here ∙ ap (slice_get list) (sym same) ∙ is)) it
 
 module _ (n : Network) (w : Woken) (stable m : List ℕ) (f : First) (ok : IsNetwork n) (woken : AreWoken n w) (settled : AreSettled n.parts stable)
     (within : (i : ℕ) (p : Part) (k q : ℕ) → slice_get n.parts i ≡ Some p → slice_get (places_of p) k ≡ Some q → q < length n.initial)

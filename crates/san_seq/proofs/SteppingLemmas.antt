@@ -1,4 +1,5 @@
 -- The parts of a step are the law's, and leave a state of a run.
+use Rattle.san_base.proofs.NumberTests.{number_within}
 use Rattle.std.proofs.Common.{ℕ, ◌+◌, ◌≤◌, ◌<◌, ◌≡◌, ◌∙◌, ap, sym, refl, subst, arith, length, Option, Some, None, Result, Ok, Err, IfOk, Bool, true, false, nat_le, nat_lt, cond}
 use Rattle.std.proofs.lemmas.Bool.{leb-false, ltb-true}
 use Rattle.san_base.specs.declared.ending.Ending.{Ending}
@@ -22,13 +23,6 @@ pub any_ok : (r : Result Event Ending) (P : Type 0) → P → IfOk r (λ e. P)
 any_ok (Ok e) P p = p
 any_ok (Err e) P p = tt
 
-leb_is : (a b : ℕ) → a ≤ b → nat_le a b ≡ true
-leb_is a b h = by_test (nat_le a b) refl
-  where
-    by_test : (t : Bool) → nat_le a b ≡ t → nat_le a b ≡ true
-    by_test true e = e
-    by_test false e = absurd (omega (arith, h, leb-false a b e))
-
 -- what is answered and left by a step that is another's
 pub steps_like : (n : Network) (now : Result Event Ending) (left : State) (x y : law.Stepped × State) → now ≡ event_or_ending n x.0 → left ≡ x.1 → x ≡ y → Steps n now left y
 steps_like n now left x y answered is same = record {
@@ -43,7 +37,7 @@ pub due_fires : (net : Net) (s v w : State) (d : Due) → with_rows v.rows s ≡
 due_fires net s v w d same h is =
     ap (λ (x : State). law.fire net x d.leaf d.act) is
     ∙ ap (λ (x : State). law.fire net (law.fired net x v.rows d) d.leaf d.act) (sym same)
-    ∙ ap (λ (b : Bool). cond b (law.fire net (law.fired net s v.rows d) d.leaf d.act) (law.Over net.horizon law.End, s)) (sym (leb_is d.time net.horizon h))
+    ∙ ap (λ (b : Bool). cond b (law.fire net (law.fired net s v.rows d) d.leaf d.act) (law.Over net.horizon law.End, s)) (sym (number_within d.time net.horizon h))
 
 module _ (n : Network) (draw : ℕ → ℕ → ℕ) (limits : Limits) (w left : State) (j k : ℕ) (is : IsDrawn n limits (w.count + 1) w) (h : j < length w.rows) where
   timed_by : (o : Option law.Ending) → law.count_limit (net_of n draw (limits_in limits)) w.count ≡ o → (t : Happening)

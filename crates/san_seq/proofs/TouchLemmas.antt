@@ -1,19 +1,12 @@
 -- Flags that go up where a place changed, and the last stable marking that catches up.
+use Rattle.san_base.proofs.NumberTests.{some_same}
 use Rattle.std.proofs.Common.{ℕ, zero, suc, ◌+◌, ◌≤◌, ◌<◌, ◌≡◌, ◌∙◌, ◌⊎◌, inl, inr, ap, sym, refl, subst, arith, List, [], ◌∷◌, length, take, Option, Some, Bool, true, false, slice_index, slice_set}
 use Rattle.std.specs.Prelude.{slice_get}
 use Rattle.san_base.specs.declared.numbers.LeafId.{LeafId}
 use Rattle.san_seq.specs.declared.stale.Stale.{Stale}
 use Rattle.san_seq.specs.inner.Known.{AreTouched, IsTouched, Raised, StayUp}
 use Rattle.san_seq.specs.inner.Wakes.{Stands, Woken, leaves_at}
-
-same_of : {X : Type 0} (x y : X) → (let o : Option X = Some x in o) ≡ Some y → x ≡ y
-same_of x y e = cc
-
--- flags by number
-pub get_set_same : (xs : List Bool) (j : ℕ) (b : Bool) → j < length xs → slice_get (slice_set xs j b) j ≡ Some b
-get_set_same [] j b h = absurd (omega (arith, h))
-get_set_same (x ∷ xs) zero b h = refl
-get_set_same (x ∷ xs) (suc j) b h = get_set_same xs j b (omega (arith, h))
+use Rattle.san_seq.proofs.FlaggedLemmas.{set_same, up_or_down}
 
 not_both : (o : Option Bool) → o ≡ Some true → o ≡ Some false → {A : Type 0} → A
 not_both o a b = cc
@@ -59,7 +52,7 @@ touched_raised table place stable m leaves old new is so = record {
     raised : (k j q : ℕ) → slice_get (place ∷ []) k ≡ Some q → slice_get new j ≡ Some false → Stands table q j → slice_index stable q ≡ slice_index m q
     raised (suc k) j q at down there = absurd cc
     raised zero j q at down there =
-        let here : leaves_at table q ≡ leaves = ap (leaves_at table) (sym (same_of place q at)) ∙ sym is in
+        let here : leaves_at table q ≡ leaves = ap (leaves_at table) (sym (some_same place q at)) ∙ sym is in
         not_both (slice_get new j) (so.raised there.0 (record { 0 = j }) (ap (λ (ls : List LeafId). slice_get ls there.0) (sym here) ∙ there.1)) down
 
 -- its own flag
@@ -73,8 +66,8 @@ touched_itself place stable m old h = record {
     itself : (k j q : ℕ) → slice_get (place ∷ []) k ≡ Some q → slice_get (slice_set old place true) j ≡ Some false → q ≡ j → slice_index stable q ≡ slice_index m q
     itself (suc k) j q at down is = absurd cc
     itself zero j q at down is =
-        let same : place ≡ j = same_of place q at ∙ is in
-        not_both (slice_get (slice_set old place true) j) (ap (slice_get (slice_set old place true)) (sym same) ∙ get_set_same old place true h) down
+        let same : place ≡ j = some_same place q at ∙ is in
+        not_both (slice_get (slice_set old place true) j) (ap (slice_get (slice_set old place true)) (sym same) ∙ set_same old place true h) down
 
 pub touched_more : (Wakes : ℕ → ℕ → Type 0) (places : List ℕ) (k place : ℕ) (stable m : List ℕ) (old xs new : List Bool) → slice_get places k ≡ Some place
     → IsTouched Wakes (take k places) stable m old xs → IsTouched Wakes (place ∷ []) stable m xs new → IsTouched Wakes (take (k + 1) places) stable m old new
@@ -96,15 +89,9 @@ all_more w places k place stable m old mid new here so now = record {
   places = touched_more (λ q j. q ≡ j) places k place stable m old.places mid.places new.places here so.places now.places;
 }
 
-flag_at : (flags : List Bool) (j : ℕ) → j < length flags → (slice_get flags j ≡ Some true) ⊎ (slice_get flags j ≡ Some false)
-flag_at [] j h = absurd (omega (arith, h))
-flag_at (true ∷ fs) zero h = inl refl
-flag_at (false ∷ fs) zero h = inr refl
-flag_at (f ∷ fs) (suc j) h = flag_at fs j (omega (arith, h))
-
 -- a flag that is up stays so
 pub own_stays : (old new : List Bool) (j : ℕ) → StayUp old new → j < length new → slice_get old j ≡ Some true → slice_get new j ≡ Some true
-own_stays old new j kept h up = by_flag (flag_at new j h)
+own_stays old new j kept h up = by_flag (up_or_down new j h)
   where
     by_flag : (slice_get new j ≡ Some true) ⊎ (slice_get new j ≡ Some false) → slice_get new j ≡ Some true
     by_flag (inl e) = e

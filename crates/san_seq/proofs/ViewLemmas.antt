@@ -7,12 +7,12 @@ use Rattle.std.proofs.lemmas.List.{length-map, length-set, get_or-map, get_or-se
 use Rattle.san_base.specs.declared.ending.Trap.{Trap}
 use Rattle.san_expr.specs.Meaning.{Meaning}
 use Rattle.san_expr.specs.Meets.{Meets}
-use Rattle.san_expr.specs.View.{Agrees, Known, Reads, Answers, assigned, with}
+use Rattle.san_expr.specs.View.{Agrees, Known, ReadsCell, Answers, assigned, with}
 use Rattle.san_expr.proofs.WholeLemmas.{plain_is}
 use Rattle.san_law.proofs.Places.{below_at}
 use Rattle.san_law.specs.Lawful.{AllBelow, AreDistinct}
 use Rattle.san_law.specs.State.{gather, index_of, or_next, scatter}
-use Rattle.san_net.specs.Cells.{IsOver}
+use Rattle.san_net.specs.Cells.{LiesOver}
 use Rattle.san_net.specs.Laid.{place_of}
 use Rattle.san_net.proofs.CellLemmas.{cells_are, gathered, not_there, outside_set, put_together}
 use Rattle.san_net.specs.declared.part.Slot.{Slot}
@@ -71,11 +71,11 @@ shown_set values kept k v h =
     ∙ ap (λ (own : Known). record { places = length values; first = λ p. None; own = own; behind = []; kept = kept }) (own_is values k v h)
 
 -- what a read gives
-pub read_is : (s : Seen) (k v : ℕ) → k < length s.places → v ≡ slice_index s.marking (slice_index s.places k) → Reads (view_state_of s) (view_state_of s) k v
+pub read_is : (s : Seen) (k v : ℕ) → k < length s.places → v ≡ slice_index s.marking (slice_index s.places k) → ReadsCell (view_state_of s) (view_state_of s) k v
 read_is s k v h is = subst (λ (o : Option ℕ). Answers o None (view_state_of s) (view_state_of s) k v) (sym (gathered s.places s.marking k h)) (is, refl)
 
 -- what an assignment leaves
-pub set_is : (s t : Seen) (k v : ℕ) → IsOver s.places s.marking → k < length s.places → t.places ≡ s.places → t.marking ≡ slice_set s.marking (slice_index s.places k) v
+pub set_is : (s t : Seen) (k v : ℕ) → LiesOver s.places s.marking → k < length s.places → t.places ≡ s.places → t.marking ≡ slice_set s.marking (slice_index s.places k) v
     → view_state_of t ≡ assigned (view_state_of s) k v
 set_is s t k v over h same left =
     ap (λ (ps : List ℕ). shown (gather ps t.marking) (ps ++ outside ps t.marking)) same ∙ ap (λ (m : List ℕ). shown (gather s.places m) (s.places ++ outside s.places m)) left
@@ -84,7 +84,7 @@ set_is s t k v over h same left =
     ∙ shown_set (gather s.places s.marking) (s.places ++ outside s.places s.marking) k v (omega (arith, h, cells_are s.places s.marking))
 
 -- the place of a cell, found by its slot
-module _ (slots : List Slot) (m : List ℕ) (s : Seen) (is : (let seen : Seen = record { places = map place_of slots; marking = m } in seen) ≡ s) (over : IsOver (map place_of slots) m)
+module _ (slots : List Slot) (m : List ℕ) (s : Seen) (is : (let seen : Seen = record { places = map place_of slots; marking = m } in seen) ≡ s) (over : LiesOver (map place_of slots) m)
     (k at : ℕ) (h : k < length (gather s.places s.marking)) (found : at ≡ place_of (slice_index_or slots k (Private (record { 0 = 0 })))) where
   abbrev seen : Seen
   seen = record { places = map place_of slots; marking = m }
@@ -98,8 +98,8 @@ module _ (slots : List Slot) (m : List ℕ) (s : Seen) (is : (let seen : Seen = 
   pub within : at < length m
   within = subst (λ (n : ℕ). n < length m) (sym at_is) (below_at (map place_of slots) (length m) k over.within inside)
 
-  pub reads_there : (v : ℕ) → v ≡ slice_index m at → Reads (view_state_of s) (view_state_of s) k v
-  reads_there v e = subst (λ (x : Seen). Reads (view_state_of x) (view_state_of x) k v) is (read_is seen k v inside (e ∙ ap (slice_index m) at_is))
+  pub reads_there : (v : ℕ) → v ≡ slice_index m at → ReadsCell (view_state_of s) (view_state_of s) k v
+  reads_there v e = subst (λ (x : Seen). ReadsCell (view_state_of x) (view_state_of x) k v) is (read_is seen k v inside (e ∙ ap (slice_index m) at_is))
 
   pub sets_there : (v : ℕ) (t : Seen) → t.places ≡ map place_of slots → t.marking ≡ slice_set m at v → view_state_of t ≡ assigned (view_state_of s) k v
   sets_there v t same left = set_is seen t k v over inside same (left ∙ ap (λ (n : ℕ). slice_set m n v) at_is) ∙ ap (λ (x : Seen). assigned (view_state_of x) k v) is

@@ -1,4 +1,5 @@
 -- The tables of the leaves that a change of a place concerns, as they are made.
+use Rattle.san_base.proofs.NumberTests.{some_same}
 use Rattle.std.proofs.Common.{ℕ, zero, suc, ◌+◌, ◌≤◌, ◌<◌, ◌≡◌, ◌≢◌, ◌∙◌, ◌⊎◌, inl, inr, ap, sym, refl, subst, arith, List, [], ◌∷◌, ◌++◌, length, take, Option, Some, slice_set}
 use Rattle.std.specs.Prelude.{slice_get, IsTrue}
 use Rattle.std.proofs.lemmas.Bool.{cases_eq, cases_lt}
@@ -12,9 +13,6 @@ use Rattle.san_seq.specs.declared.concern.Concern.{Concern}
 use Rattle.san_seq.specs.inner.Wakes.{IsAscending, IsNoted, IsNotedAt, IsTable, Stands, concerned, leaves_at}
 use Rattle.san_seq.proofs.TouchLemmas.{taken_more}
 
-same_of : {X : Type 0} (x y : X) → (let o : Option X = Some x in o) ≡ Some y → x ≡ y
-same_of x y e = cc
-
 -- one more behind a list
 front_stays : (xs : List LeafId) (y : LeafId) (k : ℕ) (l : LeafId) → slice_get xs k ≡ Some l → slice_get (xs ++ y ∷ []) k ≡ Some l
 front_stays [] y k l e = absurd cc
@@ -26,7 +24,7 @@ behind_all [] y = refl
 behind_all (x ∷ xs) y = behind_all xs y
 
 front_or_last : (xs : List LeafId) (y : LeafId) (k : ℕ) (l : LeafId) → slice_get (xs ++ y ∷ []) k ≡ Some l → (l ≡ y) ⊎ ((i : ℕ) × (slice_get xs i ≡ Some l))
-front_or_last [] y zero l e = inl (sym (same_of y l e))
+front_or_last [] y zero l e = inl (sym (some_same y l e))
 front_or_last [] y (suc k) l e = absurd cc
 front_or_last (x ∷ xs) y zero l e = inr (0, e)
 front_or_last (x ∷ xs) y (suc k) l e = by_case (front_or_last xs y k l e)
@@ -36,7 +34,7 @@ front_or_last (x ∷ xs) y (suc k) l e = by_case (front_or_last xs y k l e)
     by_case (inr h) = inr (suc h.0, h.1)
 
 last_is : (xs : List LeafId) (y : LeafId) (k : ℕ) (l : LeafId) → length xs ≤ k → slice_get (xs ++ y ∷ []) k ≡ Some l → (l ≡ y) × (k ≡ length xs)
-last_is [] y zero l h e = (sym (same_of y l e), refl)
+last_is [] y zero l h e = (sym (some_same y l e), refl)
 last_is [] y (suc k) l h e = absurd cc
 last_is (x ∷ xs) y zero l h e = absurd (omega (arith, h))
 last_is (x ∷ xs) y (suc k) l h e = let rest = last_is xs y k l (omega (arith, h)) e in (rest.0, ap suc rest.1)
@@ -124,7 +122,7 @@ noted_more x acts leaf places k place before mid after is so now = record {
     there : (i q : ℕ) → IsTrue (concerned x acts i) → (slice_get (take k places) i ≡ Some q) ⊎ ((i ≡ k) × (slice_get places k ≡ Some q)) → Stands after q leaf.0
     there i q t (inl e) = now.kept q leaf.0 (so.there i q e t)
     there i q t (inr e) =
-        let same : place ≡ q = same_of place q (sym is ∙ e.1) in
+        let same : place ≡ q = some_same place q (sym is ∙ e.1) in
         subst (λ (p : ℕ). Stands after p leaf.0) same (now.there (subst (λ (c : ℕ). IsTrue (concerned x acts c)) e.0 t))
 
 -- one leaf more
@@ -148,6 +146,6 @@ table_more x n j p t u is number so now = record {
     there i c q r at e f (inl l) h = now.kept q i (so.there i c q r l at e f)
     there i c q r at e f (inr l) h =
         let here : i ≡ j = omega (arith, l, h) in
-        let same : p ≡ r = same_of p r (sym is ∙ ap (slice_get n.parts) (sym here) ∙ at) in
+        let same : p ≡ r = some_same p r (sym is ∙ ap (slice_get n.parts) (sym here) ∙ at) in
         subst (Stands u q) (number ∙ sym here)
         (now.there c q (ap (λ (y : Part). slice_get (places_of y) c) same ∙ e) (subst (λ (y : Part). IsTrue (concerned x y.atomic.acts c)) (sym same) f))

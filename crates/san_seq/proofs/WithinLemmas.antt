@@ -1,12 +1,12 @@
 -- What a step tells is of an activity of the network.
-use Rattle.std.proofs.Common.{ℕ, zero, suc, ◌+◌, ◌≤◌, ◌<◌, ◌≡◌, ◌∙◌, ap, refl, subst, arith, List, [], ◌∷◌, length, map, Option, Result, Ok, Err}
+use Rattle.std.proofs.Common.{ℕ, zero, suc, ◌+◌, ◌<◌, ◌≡◌, ◌∙◌, ap, refl, subst, arith, List, [], ◌∷◌, length, map}
 use Rattle.std.proofs.lemmas.List.{length-map}
 use Rattle.san_base.specs.declared.ending.Trap.{Trap}
-use Rattle.san_law.proofs.Within.{clocks_then, clocks_within, row_within}
+use Rattle.san_law.proofs.Within.{clocks_within, row_within}
 use Rattle.san_law.specs.Activity.{Activity}
 use Rattle.san_law.specs.Activity as leaf
-use Rattle.san_law.specs.Clocks.{AllClocks, BadClock, Clock, Clocks, clock_then, renewed_act, renewed_acts, row_of_clocks}
-use Rattle.san_law.specs.Net.{Faulty, Fresh, Net, Renewing, Row, Timer}
+use Rattle.san_law.specs.Clocks.{AllClocks, BadClock, Clocks}
+use Rattle.san_law.specs.Net.{Faulty, Fresh, Net, Renewing, Row}
 use Rattle.san_law.specs.Network.{Limits as Bounds, part_at}
 use Rattle.san_law.specs.Renewal.{AllFresh, Due, FaultAt, Renewal, and_rest, least_from, renewed_from, renewed_then}
 use Rattle.san_law.specs.Renewal as law

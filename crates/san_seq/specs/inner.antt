@@ -1,6 +1,7 @@
 pub mod Completions
 pub mod Dues
 pub mod Firsts
+pub mod Flagged
 pub mod Held
 pub mod Known
 pub mod Nexts

@@ -3,10 +3,10 @@
 ghost use Rattle.std.specs.Prelude.{IfErr, Some, length, map, slice_get, slice_index, ℕ, ◌*◌, ◌+◌, ◌<◌, ◌≡◌, ◌≤◌};
 ghost use Rattle.san_base.specs.declared.limits.TheConstants.{MAX_DRAWS};
 ghost use Rattle.san_draw.specs.Key.{draw_of};
-ghost use Rattle.san_expr.specs.View.{Reads, ViewState, assigned};
+ghost use Rattle.san_expr.specs.View.{ReadsCell, ViewState, assigned};
 ghost use Rattle.san_law.specs.Network.{Limits};
 ghost use Rattle.san_net.specs.Accepted.{IsAccepted};
-ghost use Rattle.san_net.specs.Cells.{IsOver};
+ghost use Rattle.san_net.specs.Cells.{LiesOver};
 ghost use Rattle.san_net.specs.Laid.{acts_of, place_of, places_of};
 ghost use Rattle.san_net.specs.declared.part.Part.{Part};
 ghost use Rattle.san_seq.specs.inner.Completions.{completed_by, leaf_left, part_left};
@@ -30,20 +30,20 @@ pub(crate) struct LeafView<'a> {
 impl<'a> Model for LeafView<'a> {
     ghost use Rattle.std.specs.Prelude.{map};
     ghost use Rattle.san_net.specs.Laid.{place_of};
-    ghost use Rattle.san_net.specs.Cells.{IsOver};
+    ghost use Rattle.san_net.specs.Cells.{LiesOver};
     ghost use Rattle.san_seq.specs.inner.Views.{Seen};
 
     ghost Value = { Seen };
 
     ghost view = { λ v. record { places = map place_of v.slots.now; marking = v.marking.items } };
 
-    ghost invariant = { λ v. IsOver (map place_of v.slots.now) v.marking.items };
+    ghost invariant = { λ v. LiesOver (map place_of v.slots.now) v.marking.items };
 }
 
 impl<'a> LeafView<'a> {
     /// The view of these slots.
     pub(crate) fn new(slots: &'a [Slot], marking: Vec<u32>) -> LeafView<'a>
-        requires { IsOver (map place_of slots.now) marking.items }
+        requires { LiesOver (map place_of slots.now) marking.items }
         ensures places { result.places ≡ map place_of slots.now }
         ensures marking { result.marking ≡ marking.items }
     {
@@ -88,7 +88,7 @@ fn complete_leaf(
     requires accepted { IsAccepted part.now.atomic }
     requires each { length part.now.slots ≡ length part.now.atomic.initial }
     requires act { act < length part.now.atomic.acts }
-    requires over { IsOver (places_of part.now) marking.items }
+    requires over { LiesOver (places_of part.now) marking.items }
     requires cases { length row.old.cases ≡ length part.now.atomic.acts }
     requires streams { 2 * (part.now.first.0 + length part.now.atomic.acts) ≤ streams.old.streams }
     requires small { part.now.first.0 + length part.now.atomic.acts ≤ MAX_ACTS }

@@ -7,13 +7,13 @@
 //! | the next instantaneous activity | a test of the leaf that completed last, and for each place that has another value than at the last stable point one of each leaf that hangs on it, up to the first that has something; before the first timer fires, a test of each leaf |
 //! | renewal | that of each leaf whose timers hang on such a place |
 //! | the timer that is due first | looked up; log n for each leaf whose least timer has changed |
-//! | the last stable marking | log of the places for each place that has changed |
-//! | a completion | a copy of its leaf's cells, and log n for each leaf whose timers hang on a cell that has changed |
+//! | the last stable marking | a copy of each value that has changed |
+//! | a completion | a copy of its leaf's cells, and a flag for each of them that has changed and each leaf whose timers hang on it |
 #![tactic(auto)]
 
 mod completion;
 mod concern;
-mod fire;
+mod flagged;
 mod laws;
 mod next;
 mod renewal;

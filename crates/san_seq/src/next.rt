@@ -14,12 +14,12 @@ ghost use Rattle.san_seq.specs.inner.Known.{AreSettled, HaveSame};
 ghost use Rattle.san_seq.specs.inner.Nexts.{first_by, first_from, next_among, next_in};
 ghost use Rattle.san_seq.specs.inner.Wakes.{AreWoken};
 
+use crate::flagged::Flagged;
 use crate::renewal::Markings;
 use crate::stale::Stale;
 use crate::wakes::Wakes;
 use san_base::{LeafId, PlaceId, Trap};
 use san_net::{FirstInstant, Flat, LeafCells, Part, first_instant};
-use san_winner::Flags;
 
 /// Which instantaneous activity completes next: its leaf, and its number in the leaf.
 #[derive(Clone, Copy, Debug, PartialEq, Eq)]
@@ -140,7 +140,7 @@ fn first_of_place(
 
 /// The first leaf's that has one, in order, where the last stable marking was one: only leaves that
 /// hang on a place with another value can have something.
-fn first_of_changed(flat: &Flat, wakes: &Wakes, places: &Flags, markings: &Markings<'_>) -> Next
+fn first_of_changed(flat: &Flat, wakes: &Wakes, places: &Flagged, markings: &Markings<'_>) -> Next
     requires settled { AreSettled flat.now.parts markings.now.stable.now }
     requires same { HaveSame places.now markings.now.stable.now markings.now.present.now }
     requires flags { length places.now ≡ length flat.now.initial }
@@ -154,15 +154,10 @@ fn first_of_changed(flat: &Flat, wakes: &Wakes, places: &Flags, markings: &Marki
         leaf: LeafId(flat.leaves()),
         next: Next::Stable,
     };
-    let mut from = 0;
-    'places: while from < flat.places() as usize {
-        match places.next(from) {
-            None => return first.next,
-            Some(at) => {
-                first = first_of_place(flat, wakes, PlaceId(at as u32), first, markings);
-                from = at + 1;
-            }
-        }
+    let changed = places.list();
+    'places: for k in 0..changed.len() {
+        let place = PlaceId(changed[k] as u32);
+        first = first_of_place(flat, wakes, place, first, markings);
     }
     first.next
 }

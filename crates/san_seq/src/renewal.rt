@@ -13,16 +13,16 @@ ghost use Rattle.san_net.specs.Laid.{acts_of, places_of};
 ghost use Rattle.san_net.specs.Network.{net_of};
 ghost use Rattle.san_net.specs.declared.part.Part.{Part};
 ghost use Rattle.san_seq.specs.inner.Known.{AreFresh};
-ghost use Rattle.san_seq.specs.inner.Renewals.{renewed_part};
+ghost use Rattle.san_seq.specs.inner.Renewals.{renewed_part, sooner_fault};
 ghost use Rattle.san_seq.specs.inner.Rows.{AreDrawn, AreRows, IsLike, IsRowOf, renewal_by, row_at};
 
+use crate::flagged::Flagged;
 use crate::rows::Rows;
 use san_base::{LeafId, MAX_ACTS, Trap};
 use san_clock::{Renewal, Row, renew};
 use san_delay::DelayTables;
 use san_draw::Streams;
 use san_net::{Flat, LeafCells, Part, same_values};
-use san_winner::Flags;
 
 /// The last stable marking, and the present one.
 #[derive(Clone, Copy, Debug)]
@@ -30,6 +30,9 @@ pub(crate) struct Markings<'a> {
     pub(crate) stable: &'a [u32],
     pub(crate) present: &'a [u32],
 }
+
+/// A leaf whose renewal traps, with its activity, if there is one.
+type Fault = Result<(), (LeafId, u32, Trap)>;
 
 /// Renews the timers of a leaf at a time; a trap is answered with its activity.
 fn renew_leaf(
@@ -97,14 +100,31 @@ pub(crate) fn renew_at(
     renew_leaf(tables, streams, time, flat.part(leaf).get(), markings, row)
 }
 
-/// Renews all stale leaves' timers at a time, up to the first trap, which is answered with its leaf and
-/// activity.
+/// The trap of the first leaf that has one, where a further leaf was renewed.
+fn first_fault(known: Fault, leaf: LeafId, done: Result<(), (u32, Trap)>) -> Fault
+    ensures { result ≡ sooner_fault known leaf done }
+{
+    match (known, done) {
+        (known, Ok(())) => known,
+        (Ok(()), Err(fault)) => Err((leaf, fault.0, fault.1)),
+        (Err(first), Err(fault)) => {
+            if leaf.0 < first.0.0 {
+                Err((leaf, fault.0, fault.1))
+            } else {
+                Err(first)
+            }
+        }
+    }
+}
+
+/// Renews all stale leaves' timers at a time, in any order; of those that trap the first leaf is
+/// answered, with its activity.
 pub(crate) fn renew_rows(
     flat: &Flat,
     tables: &DelayTables,
     streams: &mut Streams,
     time: u64,
-    stale: &Flags,
+    stale: &Flagged,
     markings: &Markings<'_>,
     rows: &mut Rows,
 ) -> Result<(), (LeafId, u32, Trap)>
@@ -125,18 +145,13 @@ pub(crate) fn renew_rows(
     ensures like { (j : ℕ) → IsLike (row_at rows.new j) (row_at rows.old j) }
     ensures streams { streams.new ≡ streams.old }
 {
-    let mut from = 0;
-    'leaves: while from < flat.leaves() as usize {
-        match stale.next(from) {
-            None => return Ok(()),
-            Some(j) => {
-                let leaf = LeafId(j as u32);
-                match rows.renew(flat, tables, streams, time, leaf, markings) {
-                    Ok(()) => from = j + 1,
-                    Err(fault) => return Err((leaf, fault.0, fault.1)),
-                }
-            }
-        }
+    flat.is_network();
+    let leaves = stale.list();
+    let mut fault = Ok(());
+    'leaves: for k in 0..leaves.len() {
+        let leaf = LeafId(leaves[k] as u32);
+        let done = rows.renew(flat, tables, streams, time, leaf, markings);
+        fault = first_fault(fault, leaf, done);
     }
-    Ok(())
+    fault
 }

@@ -1,7 +1,7 @@
 //! The rows of all leaves, and of their timers the one that is due first.
 
 ghost use Rattle.std.specs.Option.{option_map};
-ghost use Rattle.std.specs.Prelude.{All, IfErr, IfOk, None, Some, length, map, slice_get, slice_index, slice_set, ℕ, ◌*◌, ◌+◌, ◌<◌, ◌≡◌, ◌≤◌};
+ghost use Rattle.std.specs.Prelude.{All, IfErr, IfOk, None, Some, length, map, slice_get, slice_index, slice_set, Option, ℕ, ◌*◌, ◌+◌, ◌<◌, ◌≡◌, ◌≤◌};
 ghost use Rattle.san_base.specs.declared.limits.TheConstants.{MAX_DRAWS, MAX_TIME};
 ghost use Rattle.san_clock.specs.Rows.{renewing_by, timer_in};
 ghost use Rattle.san_draw.specs.Key.{draw_of};
@@ -13,7 +13,7 @@ ghost use Rattle.san_net.specs.Laid.{acts_of};
 ghost use Rattle.san_net.specs.Network.{net_of};
 ghost use Rattle.san_net.specs.declared.part.Part.{Part};
 ghost use Rattle.san_seq.specs.inner.Completions.{completed_by, leaf_left};
-ghost use Rattle.san_seq.specs.inner.Dues.{due_in, first_due};
+ghost use Rattle.san_seq.specs.inner.Dues.{AreDues, due_in, first_due};
 ghost use Rattle.san_seq.specs.inner.Openings.{rows_of};
 ghost use Rattle.san_seq.specs.inner.Rows.{AreRows, IsLike, row_at};
 
@@ -42,18 +42,21 @@ pub(crate) struct Due {
 pub(crate) struct Rows {
     rows: Vec<Row>,
     dues: Winners,
+    /// The leaf whose key may not be that of its row. A leaf whose timer fired is renewed before the
+    /// next search, so that its key is set once.
+    behind: Option<LeafId>,
 }
 
 impl Model for Rows {
-    ghost use Rattle.std.specs.Prelude.{List, map, ◌≡◌};
+    ghost use Rattle.std.specs.Prelude.{List};
     ghost use Rattle.san_law.specs.Net.{Row};
-    ghost use Rattle.san_seq.specs.inner.Dues.{first_due};
+    ghost use Rattle.san_seq.specs.inner.Dues.{AreDues};
 
     ghost Value = { List Row };
 
     ghost view = { λ r. r.rows.items };
 
-    ghost invariant = { λ r. r.dues ≡ map first_due r.rows.items };
+    ghost invariant = { λ r. AreDues r.behind r.dues r.rows.items };
 }
 
 /// The timer of an activity before the least of those after it.
@@ -122,6 +125,54 @@ fn follow(dues: &mut Winners, leaf: LeafId, row: &Row)
     }
 }
 
+/// The key of the leaf that is behind follows its row.
+fn catch_up(dues: &mut Winners, behind: Option<LeafId>, rows: &[Row])
+    requires dues { AreDues behind dues.old rows.now }
+    requires sized { length dues.old ≡ length rows.now }
+    requires small { (j : ℕ) → length (row_at rows.now j).timers ≤ MAX_ACTS }
+    ensures { dues.new ≡ map first_due rows.now }
+{
+    if let Some(leaf) = behind {
+        follow(dues, leaf, &rows[leaf.0 as usize]);
+    }
+}
+
+/// The keys of all leaves but one follow their rows.
+fn catch_up_others(dues: &mut Winners, behind: Option<LeafId>, rows: &[Row], leaf: LeafId)
+    requires dues { AreDues behind dues.old rows.now }
+    requires sized { length dues.old ≡ length rows.now }
+    requires small { (j : ℕ) → length (row_at rows.now j).timers ≤ MAX_ACTS }
+    ensures { (due : Option ℕ) → slice_set dues.new leaf.0 due
+        ≡ slice_set (map first_due rows.now) leaf.0 due }
+{
+    match behind {
+        Some(other) if other.0 == leaf.0 => {}
+        _ => catch_up(dues, behind, rows),
+    }
+}
+
+/// The least timer of a leaf's row.
+fn least_at(rows: &[Row], leaf: usize) -> Option<(u64, u32)>
+    requires leaf { leaf < length rows.now }
+    requires small { (j : ℕ) → length (row_at rows.now j).timers ≤ MAX_ACTS }
+    ensures { result ≡ least_timer (row_at rows.now leaf) }
+{
+    least_of(&rows[leaf])
+}
+
+/// The timer that is due first, by the leaves' keys.
+fn first_timer(dues: &Winners, rows: &[Row]) -> Option<Due>
+    requires dues { dues.now ≡ map first_due rows.now }
+    requires few { length rows.now ≤ MAX_ACTS }
+    requires small { (j : ℕ) → length (row_at rows.now j).timers ≤ MAX_ACTS }
+    ensures { option_map due_in result ≡ law.least_from 0 (map least_timer rows.now) }
+{
+    match dues.least() {
+        Some((_, leaf)) => due_of(LeafId(leaf as u32), least_at(rows, leaf)),
+        None => None,
+    }
+}
+
 /// The rows of all leaves before the first step.
 fn blanks(alloc: Global, flat: &Flat) -> Result<Vec<Row>, NoMemory>
     ensures { IfOk result (λ rows. rows.items ≡ rows_of flat.now.parts) }
@@ -141,33 +192,38 @@ impl Rows {
     {
         let rows = blanks(alloc, flat)?;
         let dues = Winners::open(alloc, flat.leaves() as usize)?;
-        Ok(Rows { rows, dues })
+        Ok(Rows {
+            rows,
+            dues,
+            behind: None,
+        })
     }
 
     /// The timer that is due first; for equal times the first leaf's, and there the first
     /// activity's.
-    pub(crate) fn least(&self) -> Option<Due>
-        requires few { length self.now ≤ MAX_ACTS }
-        requires small { (j : ℕ) → length (row_at self.now j).timers ≤ MAX_ACTS }
-        ensures { option_map due_in result ≡ law.least_from 0 (map least_timer self.now) }
+    pub(crate) fn least(&mut self) -> Option<Due>
+        requires few { length self.old ≤ MAX_ACTS }
+        requires small { (j : ℕ) → length (row_at self.old j).timers ≤ MAX_ACTS }
+        ensures due { option_map due_in result ≡ law.least_from 0 (map least_timer self.old) }
+        ensures same { self.new ≡ self.old }
     {
-        match self.dues.least() {
-            Some((_, leaf)) => due_of(LeafId(leaf as u32), least_of(&self.rows[leaf])),
-            None => None,
-        }
+        catch_up(&mut self.dues, self.behind, &self.rows);
+        self.behind = None;
+        first_timer(&self.dues, &self.rows)
     }
 
     /// Drops the timer of a leaf's activity.
     pub(crate) fn drop_timer(&mut self, leaf: LeafId, act: u32)
         requires leaf { leaf.0 < length self.old }
         requires act { act < length (row_at self.old leaf.0).timers }
-        requires small { length (row_at self.old leaf.0).timers ≤ MAX_ACTS }
+        requires small { (j : ℕ) → length (row_at self.old j).timers ≤ MAX_ACTS }
         ensures { self.new ≡ slice_set self.old leaf.0 (without_timer (row_at self.old leaf.0)
             act) }
     {
+        catch_up_others(&mut self.dues, self.behind, &self.rows, leaf);
+        self.behind = Some(leaf);
         let row = &mut self.rows[leaf.0 as usize];
         row.drop_timer(act);
-        follow(&mut self.dues, leaf, row);
     }
 
     /// Renews the timers of a leaf of the network at a time; a trap is answered with its activity.
@@ -198,6 +254,8 @@ impl Rows {
         ensures streams { streams.new ≡ streams.old }
     {
         flat.is_network();
+        catch_up_others(&mut self.dues, self.behind, &self.rows, leaf);
+        self.behind = None;
         let row = &mut self.rows[leaf.0 as usize];
         let done = renew_at(flat, tables, streams, time, leaf, markings, row);
         follow(&mut self.dues, leaf, row);

@@ -1,15 +1,15 @@
 //! Which leaves may have to be looked at again, and which places have changed.
 
-ghost use Rattle.std.specs.Prelude.{◌≡◌, ◌<◌, ◌∷◌, ℕ, [], true, false, length, replicate, slice_get, slice_index, Some, IfOk};
+ghost use Rattle.std.specs.Prelude.{◌≡◌, ◌<◌, ◌∷◌, ℕ, [], true, false, length, replicate, slice_get, slice_index, slice_set, Some, IfOk};
 ghost use Rattle.san_net.specs.Laid.{places_of};
 ghost use Rattle.san_net.specs.declared.part.Part.{Part};
 ghost use Rattle.san_seq.specs.inner.Known.{AreTouched, HasFlags, HaveFlags, HaveSame, Raised};
 ghost use Rattle.san_seq.specs.inner.Wakes.{AreWoken};
 
+use crate::flagged::Flagged;
 use crate::wakes::Wakes;
 use san_base::{LeafId, NoMemory, PlaceId};
 use san_net::Flat;
-use san_winner::Flags;
 use std::alloc::Global;
 
 /// What may have to be looked at in the next step.
@@ -19,20 +19,33 @@ pub(crate) struct Stale {
     /// in which something may be enabled at once.
     pub(crate) settled: bool,
     /// For each leaf whether one of its timers may have to be renewed.
-    pub(crate) timers: Flags,
+    pub(crate) timers: Flagged,
     /// For each place whether its value may differ from that at the last stable point.
-    pub(crate) places: Flags,
+    pub(crate) places: Flagged,
+}
+
+/// Puts up all of so many flags.
+fn raise_all(flags: &mut Flagged, many: usize)
+    requires { length flags.old ≡ many }
+    ensures { flags.new ≡ replicate many true }
+{
+    'flags: for at in 0..many {
+        flags.raise(at);
+    }
 }
 
 impl Stale {
-    /// All flags of a network, up.
+    /// At the initial marking, which counts as the last stable one, no place has changed, and all
+    /// timers are to be renewed.
     pub(crate) fn open(alloc: Global, flat: &Flat) -> Result<Stale, NoMemory>
         ensures settled { IfOk result (λ s. s.settled ≡ false) }
         ensures timers { IfOk result (λ s. s.timers ≡ replicate (length flat.now.parts) true) }
-        ensures places { IfOk result (λ s. s.places ≡ replicate (length flat.now.initial) true) }
+        ensures places { IfOk result (λ s. s.places ≡ replicate (length flat.now.initial) false) }
     {
-        let timers = Flags::open(alloc, flat.leaves() as usize)?;
-        let places = Flags::open(alloc, flat.places() as usize)?;
+        let leaves = flat.leaves() as usize;
+        let mut timers = Flagged::open(alloc, leaves)?;
+        raise_all(&mut timers, leaves);
+        let places = Flagged::open(alloc, flat.places() as usize)?;
         Ok(Stale {
             settled: false,
             timers,
@@ -42,14 +55,14 @@ impl Stale {
 }
 
 /// The flags of these leaves go up.
-fn raise(flags: &mut Flags, leaves: &[LeafId])
+fn raise(flags: &mut Flagged, leaves: &[LeafId])
     requires within { (k : ℕ) (leaf : LeafId) → slice_get leaves.now k ≡ Some leaf
         → leaf.0 < length flags.old }
     ensures { Raised leaves.now flags.old flags.new }
 {
     'leaves: for k in 0..leaves.len() {
         let leaf = leaves[k].0;
-        flags.set(leaf as usize, true);
+        flags.raise(leaf as usize);
     }
 }
 
@@ -64,7 +77,7 @@ fn touch_place(wakes: &Wakes, place: PlaceId, stable: &[u32], marking: &[u32], s
 {
     let at = place.0 as usize;
     if stable[at] != marking[at] {
-        stale.places.set(at, true);
+        stale.places.raise(at);
         raise(&mut stale.timers, wakes.timers(place));
     }
 }
@@ -90,50 +103,34 @@ pub(crate) fn touch(
 {
     flat.is_network();
     let slots = flat.part(leaf).get().slots.as_slice();
-    stale.timers.set(leaf.0 as usize, true);
+    stale.timers.raise(leaf.0 as usize);
     'cells: for k in 0..slots.len() {
         touch_place(wakes, slots[k].place(), stable, marking, stale);
     }
 }
 
-/// The marking as the last stable one, which differed in stale places. No place is stale any more.
-fn catch_up(places: &mut Flags, marking: &[u32], stable: Vec<u32>) -> Vec<u32>
-    requires flags { length places.old ≡ length marking.now }
-    requires stable { length stable.items ≡ length marking.now }
-    requires same { HaveSame places.old stable.items marking.now }
-    ensures stable { result.items ≡ marking.now }
-    ensures flags { length places.new ≡ length places.old }
+/// Copies a place's value.
+fn copy_at(stable: &mut [u32], marking: &[u32], at: usize)
+    requires at { at < length marking.now }
+    requires sized { length stable.old ≡ length marking.now }
+    ensures { stable.new ≡ slice_set stable.old at (slice_index marking.now at) }
 {
-    let mut stable = stable;
-    let mut from = 0;
-    'places: while from < marking.len() {
-        match places.next(from) {
-            None => return stable,
-            Some(at) => {
-                stable[at] = marking[at];
-                places.set(at, false);
-                from = at + 1;
-            }
-        }
-    }
-    stable
+    stable[at] = marking[at];
 }
 
-/// All of so many flags go down.
-fn lower(flags: &mut Flags, many: usize)
-    requires { length flags.old ≡ many }
-    ensures { length flags.new ≡ many }
+/// The marking as the last stable one, which differs at flagged places alone.
+fn catch_up(places: &Flagged, marking: &[u32], stable: Vec<u32>) -> Vec<u32>
+    requires flags { length places.now ≡ length marking.now }
+    requires stable { length stable.items ≡ length marking.now }
+    requires same { HaveSame places.now stable.items marking.now }
+    ensures { result.items ≡ marking.now }
 {
-    let mut from = 0;
-    'flags: while from < many {
-        match flags.next(from) {
-            None => return,
-            Some(at) => {
-                flags.set(at, false);
-                from = at + 1;
-            }
-        }
+    let changed = places.list();
+    let mut stable = stable;
+    'places: for k in 0..changed.len() {
+        copy_at(&mut stable, marking, changed[k]);
     }
+    stable
 }
 
 /// The marking as the last stable one, since nothing is enabled in it at once and all timers are as
@@ -146,7 +143,9 @@ pub(crate) fn settle(flat: &Flat, stale: &mut Stale, marking: &[u32], stable: Ve
     ensures stable { result.items ≡ marking.now }
     ensures flags { HasFlags flat.now stale.new }
 {
+    let stable = catch_up(&stale.places, marking, stable);
     stale.settled = true;
-    lower(&mut stale.timers, flat.leaves() as usize);
-    catch_up(&mut stale.places, marking, stable)
+    stale.timers.clear();
+    stale.places.clear();
+    stable
 }

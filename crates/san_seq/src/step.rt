@@ -1,10 +1,12 @@
 //! One step of a run.
 
-ghost use Rattle.std.specs.Prelude.{◌≡◌, ◌≤◌, ◌<◌, ◌+◌, ◌*◌, ◌^◌, ℕ, length, Some, IfOk};
+ghost use Rattle.std.specs.Prelude.{◌≡◌, ◌≤◌, ◌<◌, ◌+◌, ◌*◌, ◌^◌, ℕ, length, map, Some, IfOk};
 ghost use Rattle.std.specs.Option.{option_map};
 ghost use Rattle.san_draw.specs.Key.{draw_of};
 ghost use Rattle.san_law.specs.Next as law;
 ghost use Rattle.san_law.specs.Network.{Limits as Bounds};
+ghost use Rattle.san_law.specs.Net.{Net, least_timer};
+ghost use Rattle.san_law.specs.Renewal as law_renewal;
 ghost use Rattle.san_law.specs.Renewal.{renewed_from};
 ghost use Rattle.san_law.specs.State as law_state;
 ghost use Rattle.san_law.specs.Step as law_step;
@@ -20,18 +22,17 @@ ghost use Rattle.san_seq.specs.inner.Rows.{AreDrawn, AreRows, IsLike, renewal_by
 ghost use Rattle.san_seq.specs.inner.Running.{IsDrawn, IsRunning, Steps, with_rows};
 ghost use Rattle.san_seq.specs.inner.Wakes.{AreWoken};
 
-use crate::fire::fire;
+use crate::flagged::Flagged;
 use crate::next::{Next, next_instant};
 use crate::renewal::{Markings, renew_rows};
 use crate::rows::Due;
-use crate::stale::{Stale, touch};
+use crate::stale::{Stale, settle, touch};
 use crate::state::{State, complete_instant, complete_timed, trapped};
 use crate::wakes::Wakes;
-use san_base::{Ending, Event, LeafId, Limits, Trap};
+use san_base::{Ending, Event, LeafId, Limits, MAX_ACTS, Trap};
 use san_delay::DelayTables;
 use san_draw::Streams;
 use san_net::Flat;
-use san_winner::Flags;
 
 /// Which instantaneous activity completes next in a state.
 pub(crate) fn next_of(flat: &Flat, wakes: &Wakes, stale: &Stale, state: &State) -> Next
@@ -55,7 +56,7 @@ fn renew(
     flat: &Flat,
     tables: &DelayTables,
     streams: &mut Streams,
-    stale: &Flags,
+    stale: &Flagged,
     state: State,
 ) -> (Result<(), (LeafId, u32, Trap)>, State)
     requires sized { length state.marking ≡ length flat.now.initial }
@@ -85,6 +86,45 @@ fn renew(
         flat, tables, streams, state.time, stale, &markings, &mut rows,
     );
     (done, State { rows, ..state })
+}
+
+/// The timer of a state that is due first.
+fn least_due(state: State) -> (Option<Due>, State)
+    requires few { length state.rows ≤ MAX_ACTS }
+    requires small { (j : ℕ) → length (row_at state.rows j).timers ≤ MAX_ACTS }
+    ensures due { option_map due_in result.0 ≡ law_renewal.least_from 0 (map least_timer state.rows) }
+    ensures left { result.1 ≡ state }
+{
+    let mut rows = state.rows;
+    let due = rows.least();
+    (due, State { rows, ..state })
+}
+
+/// The state at the time of a timer, without it: its marking is the last stable one, and the burst
+/// begins anew. Nothing is stale any more.
+fn fire(flat: &Flat, stale: &mut Stale, due: Due, state: State) -> State
+    requires leaf { due.leaf.0 < length state.rows }
+    requires act { due.act < length (row_at state.rows due.leaf.0).timers }
+    requires small { (j : ℕ) → length (row_at state.rows j).timers ≤ MAX_ACTS }
+    requires flags { HasFlags flat.now stale.old }
+    requires marking { length state.marking ≡ length flat.now.initial }
+    requires stable { length state.stable ≡ length flat.now.initial }
+    requires same { HaveSame stale.old.places state.stable state.marking }
+    ensures fired { (net : Net) → result ≡ law_step.fired net state state.rows (due_in due) }
+    ensures flags { HasFlags flat.now stale.new }
+{
+    let mut rows = state.rows;
+    rows.drop_timer(due.leaf, due.act);
+    let marking = state.marking;
+    let stable = settle(flat, stale, &marking, state.stable);
+    State {
+        time: due.time,
+        marking,
+        stable,
+        rows,
+        burst: 0,
+        ..state
+    }
 }
 
 /// The activity of a timer completes where it is due by the horizon, else the run ends there.
@@ -148,10 +188,13 @@ fn at_rest(
     flat.is_network();
     let (done, left) = renew(flat, tables, streams, &stale.timers, state);
     match done {
-        Ok(()) => match left.rows.least() {
-            Some(due) => at_due(flat, wakes, streams, limits, stale, due, left),
-            None => (Err(Ending::End(limits.horizon)), left),
-        },
+        Ok(()) => {
+            let (first, rested) = least_due(left);
+            match first {
+                Some(due) => at_due(flat, wakes, streams, limits, stale, due, rested),
+                None => (Err(Ending::End(limits.horizon)), rested),
+            }
+        }
         Err((leaf, act, trap)) => {
             let ending = trapped(flat, left.time, leaf, act, trap);
             (Err(ending), left)

@@ -11,6 +11,6 @@ returns-then-stable-at c =
     let h : place < length c.args.stale.now.places = omega (arith, c.requires.place, c.requires.stable) in
     record {
       settled = refl;
-      timers = touched_raised c.args.wakes.now.timers place stable m c.timers.result.now c.args.stale.now.timers c.raise.new.flags c.timers.ensures c.raise.ensures;
-      places = subst (λ (fs : List Bool). IsTouched (λ q j. q ≡ j) (place ∷ []) stable m c.args.stale.now.places fs) (sym c.set.ensures) (touched_itself place stable m c.args.stale.now.places h);
+      timers = touched_raised c.args.wakes.now.timers place stable m c.timers.result.now c.args.stale.now.timers c.raise-then-stable-at.new.flags c.timers.ensures c.raise-then-stable-at.ensures;
+      places = subst (λ (fs : List Bool). IsTouched (λ q j. q ≡ j) (place ∷ []) stable m c.args.stale.now.places fs) (sym c.raise.ensures) (touched_itself place stable m c.args.stale.now.places h);
     }

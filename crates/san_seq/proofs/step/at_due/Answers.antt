@@ -98,4 +98,4 @@ returns-then-due-limits-clause-known c =
     c.args.state d u t refl c.requires.drawn.marking (c.fire-then.ensures.fired net) c.requires.quiet c.complete_timed-answer.ensures.left e)
 
 pub fire-then-requires-clause-small : goal.fire-then-requires-clause-small
-fire-then-requires-clause-small c = rows_small c.args.flat.now c.args.state.rows c.is_network.ensures.network c.requires.drawn.rows c.args.due.leaf.0
+fire-then-requires-clause-small c = λ j. rows_small c.args.flat.now c.args.state.rows c.is_network.ensures.network c.requires.drawn.rows j

@@ -3,7 +3,7 @@ use Rattle.san_draw.specs.Key.{draw_of}
 use Rattle.san_law.specs.Net.{Row}
 use Rattle.san_seq.specs.inner.Completions.{completed_by, leaf_left}
 use Rattle.san_seq.specs.inner.Rows.{IsRowOf}
-use Rattle.san_seq.proofs.DueLemmas.{keys_stay, put_there, was_there}
+use Rattle.san_seq.proofs.DueLemmas.{dues_stay, put_there, was_there}
 use Rattle.san_seq.proofs.rows.Rows.complete.Goals as goal
 
 pub complete_at-requires-clause-row : goal.complete_at-requires-clause-row
@@ -14,7 +14,8 @@ complete_at-requires-clause-row c = λ p is.
 
 pub invariant_of-self : goal.invariant_of-self
 invariant_of-self c =
-    keys_stay c.self.inside.dues c.self.inside.rows.items c.args.leaf.0 c.index_mut-row.result.now c.complete_at.new.row c.self.invariant c.index_mut-row.ensures.value c.complete_at.ensures.timers
+    dues_stay c.self.inside.behind c.self.inside.dues c.self.inside.rows.items c.args.leaf.0 c.index_mut-row.result.now c.complete_at.new.row c.self.invariant
+    (omega (arith, c.requires.leaf, c.requires.rows.each, ap length c.self.view_is)) c.index_mut-row.ensures.value c.complete_at.ensures.timers
 
 pub returns-clause-done : goal.returns-clause-done
 returns-clause-done c = λ limits.
