@@ -1,5 +1,5 @@
 -- A step of a run with the ending: the closing lines alone are left of the report.
-use Rattle.std.proofs.Common.{ℕ, ◌<◌, ◌≡◌, ◌∙◌, ap, sym, refl, subst, arith, List, ◌++◌, length, Option, Some, Result, Ok, Err}
+use Rattle.std.proofs.Common.{ℕ, ◌<◌, ◌≡◌, ◌∙◌, ap, sym, refl, subst, arith, List, ◌++◌, length, Option, Some, Result, Err}
 use Rattle.std.proofs.lemmas.List.{length-map}
 use Rattle.san_base.specs.declared.ending.Ending.{Ending}
 use Rattle.san_base.specs.declared.ending.Ending.TheVariants as ending

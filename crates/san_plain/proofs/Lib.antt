@@ -8,6 +8,7 @@ pub mod MeasureLemmas
 pub mod NumberLemmas
 pub mod OpenedLemmas
 pub mod RateLemmas
+pub mod RatedLemmas
 pub mod ReportLemmas
 pub mod StepLemmas
 pub mod TurnLemmas

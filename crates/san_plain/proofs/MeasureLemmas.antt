@@ -6,7 +6,6 @@ use Rattle.san_base.specs.declared.ending.Ending.{Ending}
 use Rattle.san_law.proofs.Trajectories.{rest_is_trajectory}
 use Rattle.san_law.specs.State.{State, opening_state}
 use Rattle.san_law.specs.Step as law
-use Rattle.san_law.specs.Trajectory.{Trajectory, trajectory}
 use Rattle.san_net.specs.Laid.{IsNetwork}
 use Rattle.san_net.specs.declared.part.Reward.{Reward}
 use Rattle.san_report.specs.Closings.{worths_by}

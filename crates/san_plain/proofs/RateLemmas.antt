@@ -1,6 +1,6 @@
 -- Rates that are set leaf by leaf.
 use Rattle.std.proofs.Common.{ℕ, zero, suc, ◌+◌, ◌<◌, ◌≤◌, ◌≡◌, ◌≢◌, ◌∙◌, ◌⊎◌, inl, inr, ap, sym, refl, subst, arith, List, [], ◌∷◌, length, map, take, Option, Some, slice_index, slice_index_or}
-use Rattle.std.specs.Prelude.{slice_get}
+use Rattle.std.specs.Prelude.{IsTrue, slice_get}
 use Rattle.std.proofs.lemmas.Bool.{cases_eq}
 use Rattle.std.proofs.lemmas.List.{get_or-set_same, get_or-set_other, length-map, length-set, set-get_or}
 use Rattle.san_base.specs.declared.numbers.LeafId.{LeafId}
@@ -17,9 +17,11 @@ use Rattle.san_net.specs.declared.part.Slot.TheVariants.{Private}
 use Rattle.san_reward.specs.Running.{Running, rates_in, rates_of, terms_in, with_all_rates, with_leaf_rates}
 use Rattle.san_reward.proofs.RatesSet.{rates_there}
 use Rattle.san_reward.proofs.Setting.{leaves_long, rates_long}
-use Rattle.san_plain.specs.inner.Rates.{AreNew, Follows, FollowsAt, FollowsPlace, FollowsPlaces, rates_at}
+use Rattle.san_plain.specs.inner.Rates.{AreNew, FollowsRates, FollowsAt, FollowsPlace, FollowsPlaces, rates_at}
 use Rattle.san_seq.proofs.TouchLemmas.{taken_more}
 use Rattle.san_plain.proofs.ImporterLemmas.{imported}
+use Rattle.san_plain.specs.inner.Rated.{rate_cells, rated_at}
+use Rattle.san_plain.proofs.RatedLemmas.{rated_there}
 
 pub same_of : {X : Type 0} (o : Option X) (x y : X) → o ≡ Some x → o ≡ Some y → x ≡ y
 same_of o x y a b = cc
@@ -66,7 +68,7 @@ module _ (n : Network) (t : Running) (j : ℕ) (are : t.terms ≡ map terms_in n
       pub set_new : AreNew n m v j
       set_new p at = ap (λ x. rates_at x j) is ∙ (get_or-set_same t.tally.rates j row [] within_rates ∙ sym (rates_there n j p at h m))
 
-      pub set_follows : Follows n m t v
+      pub set_follows : FollowsRates n m t v
       set_follows = record {
         kept = is ∙ sym (ap (λ (x : Running). with_all_rates t x.tally.rates) is);
         sized = ap (λ (x : Running). length x.tally.rates) is ∙ length-set t.tally.rates j row;
@@ -79,10 +81,10 @@ module _ (n : Network) (t : Running) (j : ℕ) (are : t.terms ≡ map terms_in n
 
 -- one set of rates after another
 module _ (n : Network) (m : List ℕ) where
-  pub follows_none : (t : Running) → Follows n m t t
+  pub follows_none : (t : Running) → FollowsRates n m t t
   follows_none t = record { kept = refl; sized = refl; each = λ j p is. inl refl }
 
-  pub follows_on : (t u v : Running) → Follows n m t u → Follows n m u v → Follows n m t v
+  pub follows_on : (t u v : Running) → FollowsRates n m t u → FollowsRates n m u v → FollowsRates n m t v
   follows_on t u v f g = record {
     kept = g.kept ∙ ap (λ (x : Running). with_all_rates x v.tally.rates) f.kept;
     sized = g.sized ∙ f.sized;
@@ -94,18 +96,18 @@ module _ (n : Network) (m : List ℕ) where
       by_case j p (inl e) (inl k) = inl (e ∙ k)
       by_case j p (inl e) (inr k) = inr (e ∙ k)
 
-  pub new_stays : (u v : Running) (j : ℕ) (p : Part) → Follows n m u v → slice_get n.parts j ≡ Some p → rates_at u j ≡ rates_of m p → rates_at v j ≡ rates_of m p
+  pub new_stays : (u v : Running) (j : ℕ) (p : Part) → FollowsRates n m u v → slice_get n.parts j ≡ Some p → rates_at u j ≡ rates_of m p → rates_at v j ≡ rates_of m p
   new_stays u v j p g is new = by_case (g.each j p is)
     where
       by_case : (rates_at v j ≡ rates_at u j) ⊎ (rates_at v j ≡ rates_of m p) → rates_at v j ≡ rates_of m p
       by_case (inl e) = e ∙ new
       by_case (inr e) = e
 
-  pub terms_stay : (u v : Running) → Follows n m u v → v.terms ≡ u.terms
+  pub terms_stay : (u v : Running) → FollowsRates n m u v → v.terms ≡ u.terms
   terms_stay u v g = ap (λ (x : Running). x.terms) g.kept
 
   -- leaf by leaf
-  pub leaf_more : (leaves : List LeafId) (but k : ℕ) (leaf : LeafId) (t u v : Running) → slice_get leaves k ≡ Some leaf → FollowsAt n (take k leaves) but m t u → Follows n m u v → (leaf.0 ≢ but → AreNew n m v leaf.0) → FollowsAt n (take (k + 1) leaves) but m t v
+  pub leaf_more : (leaves : List LeafId) (but k : ℕ) (leaf : LeafId) (t u v : Running) → slice_get leaves k ≡ Some leaf → FollowsAt n (take k leaves) but m t u → FollowsRates n m u v → (leaf.0 ≢ but → AreNew n m v leaf.0) → FollowsAt n (take (k + 1) leaves) but m t v
   leaf_more leaves but k leaf t u v here so g now = record {
     follows = follows_on t u v so.follows g;
     anew = λ i l e d. by_case i l d (taken_more leaves k i l e);
@@ -119,12 +121,12 @@ module _ (n : Network) (m : List ℕ) where
 
   -- place by place
   module _ (but : ℕ) (before : List ℕ) where
-    pub place_leaves : (place : ℕ) (t u : Running) → ((k : ℕ) (p : Part) → slice_get n.parts k ≡ Some p → p.leaf.0 ≡ k) → FollowsAt n (importers_of n.parts place) but m t u → FollowsPlace n place but before m t u
+    pub place_leaves : (place : ℕ) (t u : Running) → ((k : ℕ) (p : Part) → slice_get n.parts k ≡ Some p → p.leaf.0 ≡ k) → FollowsAt n (rated_at n place) but m t u → FollowsPlace n place but before m t u
     place_leaves place t u numbered so = record {
       follows = so.follows;
-      anew = λ d j i p is at o.
-          let got = imported n.parts place j i p is at in
+      anew = λ d j i p is at named o.
           let number = numbered j p is in
+          let got = rated_there n place j i p is number at named in
           subst (AreNew n m u) number (so.anew got.0 p.leaf got.1 (λ e. o (sym number ∙ e))) p is;
     }
 
@@ -140,7 +142,7 @@ module _ (n : Network) (m : List ℕ) where
         → slice_get n.parts but ≡ Some q → slice_get (places_of q) c ≡ Some place → FollowsPlace n place but before m t t
     place_private place t q c numbered one own has = record {
       follows = follows_none t;
-      anew = λ d j i p is at o.
+      anew = λ d j i p is at named o.
           let got = imported n.parts place j i p is at in
           let mine = imported n.parts place but c q own has in
           let same = one_only (importers_of n.parts place) got.0 mine.0 p.leaf q.leaf one got.1 mine.1 in
@@ -151,11 +153,11 @@ module _ (n : Network) (m : List ℕ) where
       pub places_more : (k place : ℕ) (t u v : Running) → slice_get places k ≡ Some place → FollowsPlaces n (take k places) but before m t u → FollowsPlace n place but before m u v → FollowsPlaces n (take (k + 1) places) but before m t v
       places_more k place t u v here so now = record {
         follows = follows_on t u v so.follows now.follows;
-        anew = λ c q e d j i p is at o. by_case c q d j i p is at o (taken_more places k c q e);
+        anew = λ c q e d j i p is at named o. by_case c q d j i p is at named o (taken_more places k c q e);
       }
         where
-          by_case : (c q : ℕ) → slice_index before q ≢ slice_index m q → (j i : ℕ) (p : Part) → slice_get n.parts j ≡ Some p → slice_get (places_of p) i ≡ Some q → j ≢ but → (slice_get (take k places) c ≡ Some q) ⊎ ((c ≡ k) × (slice_get places k ≡ Some q)) → rates_at v j ≡ rates_of m p
-          by_case c q d j i p is at o (inl e) = new_stays u v j p now.follows is (so.anew c q e d j i p is at o)
-          by_case c q d j i p is at o (inr e) =
+          by_case : (c q : ℕ) → slice_index before q ≢ slice_index m q → (j i : ℕ) (p : Part) → slice_get n.parts j ≡ Some p → slice_get (places_of p) i ≡ Some q → IsTrue (rate_cells p.atomic.rates i) → j ≢ but → (slice_get (take k places) c ≡ Some q) ⊎ ((c ≡ k) × (slice_get places k ≡ Some q)) → rates_at v j ≡ rates_of m p
+          by_case c q d j i p is at named o (inl e) = new_stays u v j p now.follows is (so.anew c q e d j i p is at named o)
+          by_case c q d j i p is at named o (inr e) =
               let same : q ≡ place = same_of (slice_get places k) q place e.1 here in
-              now.anew (λ w. d (ap (slice_index before) same ∙ (w ∙ ap (slice_index m) (sym same)))) j i p is (at ∙ ap (λ (x : ℕ). (let y : Option ℕ = Some x in y)) same) o
+              now.anew (λ w. d (ap (slice_index before) same ∙ (w ∙ ap (slice_index m) (sym same)))) j i p is (at ∙ ap (λ (x : ℕ). (let y : Option ℕ = Some x in y)) same) named o

@@ -1,6 +1,5 @@
 -- A step of a run with an event: what an account may count of it, and how the run stands after it.
-use Rattle.std.proofs.Common.{ℕ, ◌+◌, ◌^◌, ◌≤◌, ◌<◌, ◌≡◌, ◌∙◌, ap, sym, refl, subst, arith, List, [], ◌∷◌, ◌++◌, length, length-append, Option, Result, Ok, Err}
-use Rattle.san_base.specs.declared.ending.Ending.{Ending}
+use Rattle.std.proofs.Common.{ℕ, ◌+◌, ◌^◌, ◌≤◌, ◌<◌, ◌≡◌, ◌∙◌, ap, sym, refl, subst, arith, List, [], ◌∷◌, ◌++◌, length, length-append, Option, Ok}
 use Rattle.san_base.specs.declared.ending.Event.{Event}
 use Rattle.san_draw.specs.Key.{draw_of}
 use Rattle.san_law.proofs.Orders.{runs_append}
@@ -33,7 +32,6 @@ use Rattle.san_net.specs.Tables.{act_of}
 use Rattle.san_seq.specs.Outcomes.{event_in, stepped_of}
 use Rattle.san_seq.specs.declared.steps.Stepped.TheVariants as stepped
 use Rattle.san_seq.proofs.ReachLemmas.{events_are_laws, events_in_time}
-use Rattle.san_base.specs.declared.ending.Ending.TheVariants as ending
 use Rattle.san_seq.proofs.PublicAnswers.{event_answered}
 
 module _ (o : Opened) (es : List law.Event) (s : State) (c : CountedRun) (st : Stands o es s c) (event : Event) (said : stepped.Event event ≡ stepped_of (step_of c.seq).0) where

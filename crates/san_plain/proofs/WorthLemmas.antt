@@ -2,14 +2,14 @@
 use Rattle.san_law.proofs.Rewards.{plus_swap}
 use Rattle.std.proofs.Common.{ℕ, ◌+◌, ◌-◌, ◌<◌, ◌≤◌, ◌≡◌, ◌∙◌, ap, sym, refl, List, length, Bool, true, false, arith, nat_lt, cond}
 use Rattle.std.proofs.lemmas.Bool.{ltb-false}
-use Rattle.san_law.specs.Net.{Net, Rated}
+use Rattle.san_law.specs.Net.{Net}
 use Rattle.san_law.specs.State.{State}
 use Rattle.san_law.specs.Step.{Event}
 use Rattle.san_law.specs.Trajectory.{Runs}
-use Rattle.san_law.specs.Reward.{Beyond, events_sum, marked_sum, plus, rates_from, reward_sum, span_of, sum_ticks, sum_worth, tick_sum, ticked, worth, worth_by, zero_sum}
+use Rattle.san_law.specs.Reward.{Beyond, events_sum, marked_sum, plus, rates_from, reward_sum, span_of, sum_ticks, sum_worth, tick_sum, ticked, worth, worth_by}
 use Rattle.san_law.specs.Tally.{Tally, going_on, sum_of, tally_worth}
 use Rattle.san_law.specs.Standing.{Counts}
-use Rattle.san_law.proofs.Tallies.{marked_end, plus_four, plus_last, sum_like, sum_split}
+use Rattle.san_law.proofs.Tallies.{marked_end, sum_like, sum_split}
 use Rattle.san_law.proofs.Spans.{span_sum}
 
 module _ (net : Net) (opening s : State) (es : List Event) (time : ℕ) (tally : Tally) (runs : Runs net opening es s) (counts : Counts net opening es time tally) (present : tally.rates ≡ rates_from net 0 net.parts s.marking) (r : ℕ) (is : r < length net.spans) where

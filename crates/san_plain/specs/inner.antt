@@ -1,3 +1,4 @@
 pub mod Accounts
 pub mod Progress
+pub mod Rated
 pub mod Rates

@@ -6,6 +6,7 @@ ghost use Rattle.san_net.specs.Laid.{acts_of};
 ghost use Rattle.san_plain.specs.inner.Accounts.{Reaches, impulses_of, opened_account, with_event};
 
 use crate::impulses::count_impulses;
+use crate::rated::RatedLeaves;
 use crate::rates::update_rates;
 use san_base::{Event, NoMemory, Tick};
 use san_net::Flat;
@@ -17,6 +18,8 @@ use std::marker::Model;
 #[derive(Drop)]
 pub(crate) struct RewardAccount<'a> {
     flat: &'a Flat,
+    /// The leaves whose rates hang on each place.
+    rated: RatedLeaves,
     tally: Tally,
     /// The marking that the tally's rates are of.
     marking: Vec<u32>,
@@ -25,6 +28,7 @@ pub(crate) struct RewardAccount<'a> {
 impl<'a> Model for RewardAccount<'a> {
     ghost use Rattle.san_net.specs.contracts.part.Part as of_part;
     ghost use Rattle.san_plain.specs.inner.Accounts.{RewardAccount, IsAccount};
+    ghost use Rattle.san_plain.specs.inner.Rated.{AreRated};
     ghost use Rattle.std.specs.Coded.{codes};
 
     ghost Value = { RewardAccount };
@@ -33,7 +37,7 @@ impl<'a> Model for RewardAccount<'a> {
 
     ghost view = { λ a. record { network = a.flat.now; running = a.tally; marking = a.marking.items } };
 
-    ghost invariant = { λ a. IsAccount (record { network = a.flat.now; running = a.tally; marking = a.marking.items }) };
+    ghost invariant = { λ a. IsAccount (record { network = a.flat.now; running = a.tally; marking = a.marking.items }) × AreRated a.flat.now a.rated };
 }
 
 impl<'a> RewardAccount<'a> {
@@ -46,18 +50,20 @@ impl<'a> RewardAccount<'a> {
         requires { horizon.0 ≤ MAX_HORIZON }
         ensures { IfOk result (λ a. a ≡ opened_account flat.now horizon.0) }
     {
+        let rated = RatedLeaves::open(alloc, flat)?;
         let mut tally = Tally::open(alloc, flat, horizon)?;
         let marking = flat.initial_marking(alloc)?;
         tally.rate_all(flat, &marking);
         Ok(RewardAccount {
             flat,
+            rated,
             tally,
             marking,
         })
     }
 
-    /// Counts an event that reached a marking. Rates are evaluated for the leaves alone of which a
-    /// place has another value.
+    /// Counts an event that reached a marking. Rates are evaluated for its leaf, and for the leaves
+    /// alone whose terms name a place that has another value.
     pub(crate) fn count(&mut self, event: Event, marking: &[u32])
         requires act { event.act.0 < acts_of self.old.network.parts }
         requires time { self.old.running.time ≤ event.time.0 }
@@ -70,7 +76,14 @@ impl<'a> RewardAccount<'a> {
     {
         self.tally.advance(event.time);
         let leaf = self.flat.leaf_of(event.act);
-        update_rates(&mut self.tally, &mut self.marking, self.flat, leaf, marking);
+        update_rates(
+            &mut self.tally,
+            &mut self.marking,
+            self.flat,
+            &self.rated,
+            leaf,
+            marking,
+        );
         count_impulses(&mut self.tally, self.flat, leaf, event.act, marking);
     }
 

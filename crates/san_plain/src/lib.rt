@@ -7,6 +7,7 @@ mod cells;
 mod counted;
 mod impulses;
 mod measured;
+mod rated;
 mod rates;
 mod run;
 

@@ -1,13 +1,15 @@
-//! The rates of a tally follow the marking: those of the leaves alone are evaluated of which a place
-//! has another value.
+//! The rates of a tally follow the marking: beside those of the leaf that completed, those of the
+//! leaves alone are evaluated whose terms name a place that has another value.
 
 ghost use Rattle.std.specs.Prelude.{◌≡◌, ◌≢◌, ◌<◌, ℕ, [], Some, length, map, slice_get, slice_index_or};
 ghost use Rattle.std.specs.List.{list_any};
 ghost use Rattle.san_net.specs.Laid.{IsTagged, place_of, places_of};
 ghost use Rattle.san_net.specs.declared.part.Part.{Part};
 ghost use Rattle.san_reward.specs.Running.{rates_in, terms_in, with_all_rates, with_leaf_rates};
-ghost use Rattle.san_plain.specs.inner.Rates.{AreNew, DiffersIn, Follows, FollowsAt, FollowsPlace, FollowsPlaces, differs_at};
+ghost use Rattle.san_plain.specs.inner.Rated.{AreRated};
+ghost use Rattle.san_plain.specs.inner.Rates.{AreNew, DiffersIn, FollowsRates, FollowsAt, FollowsPlace, FollowsPlaces, differs_at};
 
+use crate::rated::RatedLeaves;
 use san_base::{LeafId, PlaceId};
 use san_net::{Flat, Slot, copy_cells};
 use san_reward::Tally;
@@ -19,7 +21,7 @@ fn rate_leaf(tally: &mut Tally, flat: &Flat, leaf: LeafId, marking: &[u32])
     requires marking { length marking.now ≡ length flat.now.initial }
     ensures value { tally.new ≡ with_leaf_rates tally.old leaf.0
         (slice_index_or (rates_in flat.now marking.now) leaf.0 []) }
-    ensures follows { Follows flat.now marking.now tally.old tally.new }
+    ensures follows { FollowsRates flat.now marking.now tally.old tally.new }
     ensures anew { AreNew flat.now marking.now tally.new leaf.0 }
 {
     tally.has_a_rate_for_each_term();
@@ -33,7 +35,7 @@ fn rate_other(tally: &mut Tally, flat: &Flat, leaf: LeafId, except: LeafId, mark
     requires network { tally.old.terms ≡ map terms_in flat.now.parts }
     requires leaf { leaf.0 < length flat.now.parts }
     requires marking { length marking.now ≡ length flat.now.initial }
-    ensures follows { Follows flat.now marking.now tally.old tally.new }
+    ensures follows { FollowsRates flat.now marking.now tally.old tally.new }
     ensures anew { leaf.0 ≢ except.0 → AreNew flat.now marking.now tally.new leaf.0 }
 {
     if leaf.0 != except.0 {
@@ -54,17 +56,19 @@ fn rate_leaves(tally: &mut Tally, flat: &Flat, leaves: &[LeafId], except: LeafId
     }
 }
 
-/// Where a place has another value in a marking than before, sets the rates of the leaves that have
-/// it but the one that is left out. Answers whether it has.
+/// Where a place has another value in a marking than before, sets the rates of the leaves that hang
+/// on it but the one that is left out. Answers whether it has.
 fn rate_shared(
     tally: &mut Tally,
     flat: &Flat,
+    rated: &RatedLeaves,
     place: PlaceId,
     except: LeafId,
     before: &[u32],
     marking: &[u32],
 ) -> bool
     requires network { tally.old.terms ≡ map terms_in flat.now.parts }
+    requires rated { AreRated flat.now rated.now }
     requires place { place.0 < length flat.now.initial }
     requires before { length before.now ≡ length flat.now.initial }
     requires marking { length marking.now ≡ length flat.now.initial }
@@ -75,7 +79,7 @@ fn rate_shared(
     if before[place.0 as usize] == marking[place.0 as usize] {
         return false;
     }
-    rate_leaves(tally, flat, flat.importers(place), except, marking);
+    rate_leaves(tally, flat, rated.at(place), except, marking);
     true
 }
 
@@ -83,12 +87,14 @@ fn rate_shared(
 fn rate_slot(
     tally: &mut Tally,
     flat: &Flat,
+    rated: &RatedLeaves,
     slot: Slot,
     leaf: LeafId,
     before: &[u32],
     marking: &[u32],
 ) -> bool
     requires network { tally.old.terms ≡ map terms_in flat.now.parts }
+    requires rated { AreRated flat.now rated.now }
     requires place { place_of slot < length flat.now.initial }
     requires tagged { IsTagged flat.now.shared slot }
     requires own { (p : Part) → slice_get flat.now.parts leaf.0 ≡ Some p
@@ -103,20 +109,22 @@ fn rate_slot(
     flat.is_network();
     match slot {
         Slot::Private(place) => before[place.0 as usize] != marking[place.0 as usize],
-        Slot::Shared(place) => rate_shared(tally, flat, place, leaf, before, marking),
+        Slot::Shared(place) => rate_shared(tally, flat, rated, place, leaf, before, marking),
     }
 }
 
-/// Sets the rates of the other leaves that have a place of this one which has another value in a
+/// Sets the rates of the other leaves that hang on a place of this one which has another value in a
 /// marking than before. Answers whether there is such a place.
 fn rate_others(
     tally: &mut Tally,
     flat: &Flat,
+    rated: &RatedLeaves,
     leaf: LeafId,
     before: &[u32],
     marking: &[u32],
 ) -> bool
     requires network { tally.old.terms ≡ map terms_in flat.now.parts }
+    requires rated { AreRated flat.now rated.now }
     requires leaf { leaf.0 < length flat.now.parts }
     requires before { length before.now ≡ length flat.now.initial }
     requires marking { length marking.now ≡ length flat.now.initial }
@@ -129,7 +137,7 @@ fn rate_others(
     let slots = flat.part(leaf).get().slots.as_slice();
     let mut changed = false;
     'cells: for k in 0..slots.len() {
-        changed |= rate_slot(tally, flat, slots[k], leaf, before, marking);
+        changed |= rate_slot(tally, flat, rated, slots[k], leaf, before, marking);
     }
     changed
 }
@@ -140,10 +148,12 @@ pub(crate) fn update_rates(
     tally: &mut Tally,
     kept: &mut Vec<u32>,
     flat: &Flat,
+    rated: &RatedLeaves,
     leaf: LeafId,
     marking: &[u32],
 )
     requires network { tally.old.terms ≡ map terms_in flat.now.parts }
+    requires rated { AreRated flat.now rated.now }
     requires rates { tally.old.tally.rates ≡ rates_in flat.now kept.old.items }
     requires leaf { leaf.0 < length flat.now.parts }
     requires kept { length kept.old.items ≡ length flat.now.initial }
@@ -155,7 +165,7 @@ pub(crate) fn update_rates(
 {
     flat.is_network();
     let part = flat.part(leaf).get();
-    if rate_others(tally, flat, leaf, kept, marking) {
+    if rate_others(tally, flat, rated, leaf, kept, marking) {
         rate_leaf(tally, flat, leaf, marking);
         copy_cells(part.slots.as_slice(), marking, kept);
     }

@@ -9,14 +9,14 @@ use Rattle.san_net.specs.declared.part.Slot.TheVariants.{Private}
 use Rattle.san_plain.proofs.RateLemmas.{places_more, same_of}
 use Rattle.san_plain.specs.inner.Rates.{differs_at}
 use Rattle.san_plain.proofs.rates.rate_others.Goals as goal
-use Rattle.san_net.specs.Cells.{IsOver}
+use Rattle.san_net.specs.Cells.{LiesOver}
 use Rattle.san_net.proofs.PartLemmas.{lies_over}
 use Rattle.san_net.proofs.CellLemmas.{at_slot, cell_below, inside, slot_at}
 
 pub rate_slot-changed-requires-clause-place : goal.rate_slot-changed-requires-clause-place
 rate_slot-changed-requires-clause-place c =
     let slots = c.as_slice-slots.result.now in
-    let over = subst (λ (ss : List Slot). IsOver (map place_of ss) c.args.marking.now) (sym c.as_slice-slots.ensures)
+    let over = subst (λ (ss : List Slot). LiesOver (map place_of ss) c.args.marking.now) (sym c.as_slice-slots.ensures)
     (lies_over c.args.flat.now c.args.leaf.0 c.get.result.now (c.part.ensures ∙ ap (λ (p : Part). Some p) (sym c.get.ensures)) c.args.marking.now c.requires.marking c.is_network.ensures.laid) in
     omega (arith, cell_below slots c.cells.k (place_of (slice_index_or slots c.cells.k (Private (record { 0 = 0 })))) c.cells-test.true refl c.args.marking.now over.within, c.requires.marking)
 

@@ -8,14 +8,14 @@ use Rattle.san_plain.proofs.FollowLemmas.{all_new, all_rates, kept_caught, kept_
 use Rattle.san_plain.proofs.RateLemmas.{follows_on}
 use Rattle.san_plain.proofs.rates.update_rates.Goals as goal
 use Rattle.san_law.specs.State.{gather, scatter}
-use Rattle.san_net.specs.Cells.{IsOver}
+use Rattle.san_net.specs.Cells.{LiesOver}
 use Rattle.san_seq.proofs.CompletionLemmas.{refilled}
 use Rattle.san_net.proofs.CellLemmas.{CaughtUp, copied}
 use Rattle.san_net.proofs.PartLemmas.{lies_over}
 
 pub copy_cells-requires-clause-over : goal.copy_cells-requires-clause-over
 copy_cells-requires-clause-over c =
-    subst (λ (ss : List Slot). IsOver (map place_of ss) c.args.marking.now) (sym c.as_slice.ensures)
+    subst (λ (ss : List Slot). LiesOver (map place_of ss) c.args.marking.now) (sym c.as_slice.ensures)
     (lies_over c.args.flat.now c.args.leaf.0 c.get-part.result.now (c.part.ensures ∙ ap (λ (p : Part). Some p) (sym c.get-part.ensures)) c.args.marking.now c.requires.marking c.is_network.ensures.laid)
 
 pub returns-then-rate_others-clause-rates : goal.returns-then-rate_others-clause-rates
@@ -41,7 +41,7 @@ returns-then-rate_others-clause-kept c =
     let now = c.copy_cells.new.to in
     let new : List ℕ = take c.args.kept.now.len (now ++ drop (length now) before) in
     let slots = c.as_slice.result.now in
-    let over = subst (λ (ss : List Slot). IsOver (map place_of ss) m) (sym c.as_slice.ensures) (lies_over c.args.flat.now c.args.leaf.0 p is_part m c.requires.marking c.is_network.ensures.laid) in
+    let over = subst (λ (ss : List Slot). LiesOver (map place_of ss) m) (sym c.as_slice.ensures) (lies_over c.args.flat.now c.args.leaf.0 p is_part m c.requires.marking c.is_network.ensures.laid) in
     let is = refilled c.args.kept.now.len now (drop (length now) before) c.deref_mut.result.now (map place_of slots) _ c.copy_cells.ensures c.deref_mut.ensures.len ∙ c.copy_cells.ensures
     ∙ ap (scatter (map place_of slots) (gather (map place_of slots) m)) c.deref_mut.ensures.value in
     let same = c.requires.kept ∙ sym c.requires.marking in

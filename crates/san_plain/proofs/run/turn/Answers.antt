@@ -1,4 +1,4 @@
-use Rattle.std.proofs.Common.{refl, ap, sym, ◌∙◌, [], ◌∷◌, ◌++◌}
+use Rattle.std.proofs.Common.{sym, ◌∙◌, [], ◌∷◌, ◌++◌}
 use Rattle.san_law.specs.Step as law
 use Rattle.san_law.specs.Trajectory.{trajectory}
 use Rattle.san_plain.specs.Reports.{net_by, report_of}

@@ -1,4 +1,4 @@
-use Rattle.std.proofs.Common.{refl, arith, sym, ap, ◌∙◌, subst, ◌<◌}
+use Rattle.std.proofs.Common.{refl, arith, sym, subst, ◌<◌}
 use Rattle.san_net.specs.Laid.{acts_of}
 use Rattle.san_net.specs.Network.{Network}
 use Rattle.san_plain.proofs.EndLemmas.{ended, stopped}
