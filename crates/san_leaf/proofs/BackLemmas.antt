@@ -1,18 +1,15 @@
 -- Completions that are taken back where they trap.
-use Rattle.std.proofs.Common.{ℕ, zero, suc, ◌<◌, ◌≡◌, ◌∙◌, ap, sym, refl, subst, arith, Bool, true, false, not, ◌||◌, ◌&&◌, List, [], ◌∷◌, length, Option, Some, None, Result, Ok, Err}
+use Rattle.std.proofs.Common.{ℕ, zero, suc, ◌<◌, ◌≡◌, ◌∙◌, ap, sym, refl, subst, arith, not, ◌||◌, ◌&&◌, List, [], ◌∷◌, length, Option, Some, None, Result, Ok, Err}
 use Rattle.std.specs.Prelude.{slice_get}
 use Rattle.san_base.specs.declared.ending.Trap.{Trap}
-use Rattle.san_expr.specs.Meaning.{Meaning, Outcome}
+use Rattle.san_base.proofs.Bools.{or_false}
+use Rattle.san_expr.specs.Meaning.{Meaning, Evaluation}
 use Rattle.san_expr.specs.Meets.{Meets, marking_of}
 use Rattle.san_expr.specs.View.{Agrees, ViewState, is_known}
 use Rattle.san_net.specs.Completion.{completion_of}
 use Rattle.san_net.specs.Instants.{Named}
 use Rattle.san_leaf.specs.Blocks.{back_by, completed_by, or_back}
 use Rattle.san_leaf.specs.inner.ViewStates.{Seeing, view_state_of}
-
-or_false : (a : Bool) → a ≡ (a || false)
-or_false true = refl
-or_false false = refl
 
 module _ {T : Type 0} (s0 s1 : ViewState) (a : Meaning T) where
   back_is : (r : Result T Trap) (m : List ℕ) → (a m).answer ≡ r → or_back a m ≡ back_by m (a m) r
@@ -23,11 +20,11 @@ module _ {T : Type 0} (s0 s1 : ViewState) (a : Meaning T) where
   tried x p =
       let is : (m : List ℕ) → Agrees s1 m → or_back a (marking_of s0 m) ≡ back_by (marking_of s0 m) (a (marking_of s0 m)) (Ok x) = λ m h. back_is (Ok x) (marking_of s0 m) (p.answer m h) in
       record {
-        answer = λ m h. ap (λ (o : Outcome (Result T Trap)). o.answer) (is m h);
-        left = λ m h. p.left m h ∙ sym (ap (λ (o : Outcome (Result T Trap)). o.left) (is m h));
-        looks = λ m h q. p.looks m h q ∙ sym (ap (λ (o : Outcome (Result T Trap)). is_known (s0.first q) || (not (is_known (s0.own q)) && o.looks q)) (is m h));
-        sets = λ m h q. p.sets m h q ∙ sym (ap (λ (o : Outcome (Result T Trap)). is_known (s0.own q) || o.sets q) (is m h));
-        unset = λ m h q e. p.unset m h q (sym (ap (λ (o : Outcome (Result T Trap)). o.sets q) (is m h)) ∙ e);
+        answer = λ m h. ap (λ (o : Evaluation (Result T Trap)). o.answer) (is m h);
+        left = λ m h. p.left m h ∙ sym (ap (λ (o : Evaluation (Result T Trap)). o.left) (is m h));
+        looks = λ m h q. p.looks m h q ∙ sym (ap (λ (o : Evaluation (Result T Trap)). is_known (s0.first q) || (not (is_known (s0.own q)) && o.looks q)) (is m h));
+        sets = λ m h q. p.sets m h q ∙ sym (ap (λ (o : Evaluation (Result T Trap)). is_known (s0.own q) || o.sets q) (is m h));
+        unset = λ m h q e. p.unset m h q (sym (ap (λ (o : Evaluation (Result T Trap)). o.sets q) (is m h)) ∙ e);
         grows = p.grows;
         seen = p.seen;
         places = p.places;
@@ -44,10 +41,10 @@ module _ {T : Type 0} (s0 s1 : ViewState) (a : Meaning T) where
       let old : (m : List ℕ) → Agrees back m → Agrees s1 m = λ m h. record { sized = h.sized; has = h.has } in
       let is : (m : List ℕ) → Agrees back m → or_back a (marking_of s0 m) ≡ back_by (marking_of s0 m) (a (marking_of s0 m)) (Err t) = λ m h. back_is (Err t) (marking_of s0 m) (p.answer m (old m h)) in
       record {
-        answer = λ m h. ap (λ (o : Outcome (Result T Trap)). o.answer) (is m h);
-        left = λ m h. sym (ap (λ (o : Outcome (Result T Trap)). o.left) (is m h));
-        looks = λ m h q. p.looks m (old m h) q ∙ sym (ap (λ (o : Outcome (Result T Trap)). is_known (s0.first q) || (not (is_known (s0.own q)) && o.looks q)) (is m h));
-        sets = λ m h q. or_false (is_known (s0.own q)) ∙ sym (ap (λ (o : Outcome (Result T Trap)). is_known (s0.own q) || o.sets q) (is m h));
+        answer = λ m h. ap (λ (o : Evaluation (Result T Trap)). o.answer) (is m h);
+        left = λ m h. sym (ap (λ (o : Evaluation (Result T Trap)). o.left) (is m h));
+        looks = λ m h q. p.looks m (old m h) q ∙ sym (ap (λ (o : Evaluation (Result T Trap)). is_known (s0.first q) || (not (is_known (s0.own q)) && o.looks q)) (is m h));
+        sets = λ m h q. sym (or_false (is_known (s0.own q))) ∙ sym (ap (λ (o : Evaluation (Result T Trap)). is_known (s0.own q) || o.sets q) (is m h));
         unset = λ m h q e. refl;
         grows = p.grows;
         seen = p.seen;

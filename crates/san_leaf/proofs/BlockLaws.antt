@@ -4,8 +4,9 @@ use Rattle.std.proofs.Math.Path.{fun_ext}
 use Rattle.std.specs.Prelude.{slice_get, slice_index, slice_index_or}
 use Rattle.san_base.specs.declared.ending.Trap.{Trap}
 use Rattle.san_base.specs.Rated.{rated_by}
+use Rattle.san_base.proofs.Bools.{or_false}
 use Rattle.san_expr.specs.Concerns.{AssignsNothing}
-use Rattle.san_expr.specs.Meaning.{Meaning, Outcome, go_on, joined, no_cell, settled, then_do}
+use Rattle.san_expr.specs.Meaning.{Meaning, Evaluation, go_on, joined, no_cell, settled, then_do}
 use Rattle.san_expr.specs.Value.{value_of}
 use Rattle.san_expr.proofs.WholeLemmas.{nothing_settled, nothing_then, value_reads}
 use Rattle.san_law.specs.Activity as leaf
@@ -24,7 +25,7 @@ use Rattle.san_leaf.specs.Lawful.{BlocksAreTheLaws, Is, IsBlock, IsOf, leaf_at, 
 use Rattle.san_leaf.specs.Blocks.{Made, after_done, after_found, after_impulses, and_impulses, back_by, block_of, completed_by, counted, done_of, impulse_of, impulses_by, impulses_of, made_before, or_back}
 
 -- two outcomes that differ at most in what is looked at
-record Same {T : Type 0} (a b : Outcome T) : Type 0 where
+record Same {T : Type 0} (a b : Evaluation T) : Type 0 where
   pub answer : a.answer ≡ b.answer
   pub left : a.left ≡ b.left
   pub sets : (p : ℕ) → a.sets p ≡ b.sets p
@@ -33,19 +34,15 @@ or_nothing : (a b c : Bool) → a ≡ false → b ≡ c → (a || b) ≡ c
 or_nothing true b c e f = cc
 or_nothing false b c e f = f
 
-or_at_end : (a : Bool) → (a || false) ≡ a
-or_at_end true = refl
-or_at_end false = refl
-
 -- what assigns nothing comes to what follows it
 after_read : {T U : Type 0} (a : Meaning T) (next : T → Meaning U) (v : List ℕ) (x : T) → AssignsNothing a → (a v).answer ≡ Ok x → Same (then_do a next v) (next x v)
 after_read {T} {U} a next v x none is =
     let to : then_do a next v ≡ joined (a v) (next x (a v).left) = ap (λ (r : Result T Trap). go_on r (a v) next) is in
     let left : (a v).left ≡ v = (none v).0 in
     record {
-      answer = ap (λ (o : Outcome U). o.answer) to ∙ ap (λ (m : List ℕ). (next x m).answer) left;
-      left = ap (λ (o : Outcome U). o.left) to ∙ ap (λ (m : List ℕ). (next x m).left) left;
-      sets = λ p. ap (λ (o : Outcome U). o.sets p) to ∙ or_nothing ((a v).sets p) ((next x (a v).left).sets p) ((next x v).sets p) ((none v).1 p) (ap (λ (m : List ℕ). (next x m).sets p) left);
+      answer = ap (λ (o : Evaluation U). o.answer) to ∙ ap (λ (m : List ℕ). (next x m).answer) left;
+      left = ap (λ (o : Evaluation U). o.left) to ∙ ap (λ (m : List ℕ). (next x m).left) left;
+      sets = λ p. ap (λ (o : Evaluation U). o.sets p) to ∙ or_nothing ((a v).sets p) ((next x (a v).left).sets p) ((next x v).sets p) ((none v).1 p) (ap (λ (m : List ℕ). (next x m).sets p) left);
     }
 
 -- the first always has an answer
@@ -98,7 +95,7 @@ impulses_are k (t ∷ terms) v = by_test (nat_eq t.act k) (impulses_are k terms 
         ∙ (after_read (impulses_of k terms) (λ xs. settled (Ok (impulse_in v t ∷ xs))) v (impulses_in terms k v) (impulses_read k terms) rest).answer
     by_test false rest = rest
 
-is_same : (b : law.Block) (row : net.Row) (o q : Outcome Made) → Same o q → IsOf b row q → IsOf b row o
+is_same : (b : law.Block) (row : net.Row) (o q : Evaluation Made) → Same o q → IsOf b row q → IsOf b row o
 is_same b row o q same is =
     subst (λ (r : Result Made Trap). Is b row o.left o.sets r) (sym same.answer)
     (subst (λ (m : List ℕ). Is b row m o.sets q.answer) (sym same.left)
@@ -110,7 +107,7 @@ module _ (draw : ℕ → ℕ → ℕ) (p : Part) where
 
   -- a completion's impulses and the rest of the block
   module _ (n k case : ℕ) (row : net.Row) (cases w : List ℕ) (sets : ℕ → Bool) (xs : List net.Impulse) where
-    abbrev first : Outcome (Result ℕ Trap)
+    abbrev first : Evaluation (Result ℕ Trap)
     first = record { answer = Ok (Ok case); left = w; looks = no_cell; sets = sets }
 
     abbrev rest_of : law.Block
@@ -128,12 +125,12 @@ module _ (draw : ℕ → ℕ → ℕ) (p : Part) where
     abbrev with_first : Made → Meaning Made
     with_first made = settled (Ok (made_before completion made))
 
-    by_answer : (e : Outcome Made) (r : Result Made Trap) → xs ≡ recorded → Is rest_of row e.left e.sets r → IsOf (law.before k done rest_of) row (joined first (go_on r e with_first))
+    by_answer : (e : Evaluation Made) (r : Result Made Trap) → xs ≡ recorded → Is rest_of row e.left e.sets r → IsOf (law.before k done rest_of) row (joined first (go_on r e with_first))
     by_answer e (Err t) same is = is
     by_answer e (Ok made) same is =
         ap (law.before k done) is
         ∙ ap (λ ys. record { completions = record { act = k; case = case; impulses = ys } ∷ made.completions; sets = λ q. sets q || e.sets q; left = leaf_at row made.cases e.left; close = made.close }) same
-        ∙ ap (λ (s : ℕ → Bool). record { completions = completion ∷ made.completions; sets = s; left = leaf_at row made.cases e.left; close = made.close }) (fun_ext (λ q. ap (λ (x : Bool). sets q || x) (sym (or_at_end (e.sets q)))))
+        ∙ ap (λ (s : ℕ → Bool). record { completions = completion ∷ made.completions; sets = s; left = leaf_at row made.cases e.left; close = made.close }) (fun_ext (λ q. ap (λ (x : Bool). sets q || x) (sym (or_false (e.sets q)))))
 
     impulses_then : IsBlock draw p n → xs ≡ recorded → IsOf (law.before k done rest_of) row (joined first (then_do (impulses_of k p.atomic.impulses) (after_impulses (block_of draw p n) cases k case) w))
     impulses_then rest same =
@@ -148,10 +145,10 @@ module _ (draw : ℕ → ℕ → ℕ) (p : Part) where
     abbrev act : leaf.Activity
     act = activity_by p.atomic.impulses k o
 
-    abbrev came : Outcome ℕ
+    abbrev came : Evaluation ℕ
     came = completed_by u o v
 
-    abbrev whole : Outcome Made
+    abbrev whole : Evaluation Made
     whole = then_do (or_back (completed_by u o)) (after_done (block_of draw p n) p cases k) v
 
     abbrev after : leaf.Activity → Result leaf.Effected Trap → law.Block

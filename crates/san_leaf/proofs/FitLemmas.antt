@@ -38,7 +38,7 @@ zeros_small zero i d lt = absurd (omega (arith, lt))
 zeros_small (suc n) zero d lt = omega arith
 zeros_small (suc n) (suc i) d lt = zeros_small n i d (omega (arith, lt))
 
-no_timer : (n k : ℕ) (t : Timer) → slice_get (repeated n None) k ≡ Some (Some t) → ⊥
+pub no_timer : (n k : ℕ) (t : Timer) → slice_get (repeated n None) k ≡ Some (Some t) → ⊥
 no_timer zero k t is = cc
 no_timer (suc n) zero t is = cc
 no_timer (suc n) (suc k) t is = no_timer n k t is

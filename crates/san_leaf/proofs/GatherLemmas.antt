@@ -1,6 +1,5 @@
 -- What a renewal reads.
-use Rattle.std.proofs.Common.{ℕ, zero, suc, ◌<◌, ◌≡◌, ◌∙◌, ap, sym, refl, arith, Bool, true, false, List, [], ◌∷◌, ◌++◌, length, map, Option, Some, None, slice_index}
-use Rattle.std.proofs.lemmas.List.{length-map}
+use Rattle.std.proofs.Common.{ℕ, suc, ◌≡◌, ◌∙◌, ap, sym, refl, true, List, [], ◌∷◌, ◌++◌, length, map, Option, Some, None, slice_index}
 use Rattle.san_law.specs.Net.{Private, Shared, Slot}
 use Rattle.san_law.specs.Piece.{leaf_view}
 use Rattle.san_leaf.specs.Claimed.{IsReadFrom}

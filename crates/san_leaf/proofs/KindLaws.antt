@@ -1,9 +1,9 @@
 -- What the completions of a piece make, by the law.
-use Rattle.std.proofs.Common.{ℕ, suc, ◌≡◌, ◌∙◌, ap, refl, sym, subst, arith, Bool, false, List, [], ◌∷◌, length, Option, Some, None, Result, Ok, Err}
+use Rattle.std.proofs.Common.{ℕ, suc, ◌≡◌, ◌∙◌, ap, refl, arith, false, List, [], ◌∷◌, length, Option, Some, None, Result, Ok, Err}
 use Rattle.san_base.specs.declared.ending.Trap.{Trap}
 use Rattle.san_law.specs.Block.{Block, Completion, after_done, after_found, ended, fault_of, more_of, settle}
 use Rattle.san_law.specs.Block as law
-use Rattle.san_law.specs.Net.{Broken, Done, Enabled, Found, Local, Net, Nothing, Private, Row, Shared, Slot, without_timer}
+use Rattle.san_law.specs.Net.{Broken, Done, Enabled, Found, Local, Net, Nothing, Private, Shared, Slot, without_timer}
 use Rattle.san_law.specs.Piece.{LeafState, Outcome, fired_outcome, outcome_of, own, piece_of, privates, sees, leaf_view, writes_from}
 use Rattle.san_law.specs.State.{part_of}
 use Rattle.san_net.specs.Accepted.{IsAccepted}

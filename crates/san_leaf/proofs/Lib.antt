@@ -15,3 +15,5 @@ pub mod FirstLemmas
 pub mod FitLemmas
 pub mod GatherLemmas
 pub mod RenewalLemmas
+pub mod TimerLemmas
+pub mod SameLemmas

@@ -10,7 +10,6 @@ use Rattle.san_expr.specs.View.{IsSeen}
 use Rattle.san_net.specs.Accepted.{IsAccepted}
 use Rattle.san_net.specs.Laid.{place_of}
 use Rattle.san_net.specs.Leaf.{slot_in}
-use Rattle.san_net.specs.declared.part.Part.{Part}
 use Rattle.san_net.specs.declared.part.Slot.{Slot}
 use Rattle.san_leaf.specs.Blocks.{made_of}
 use Rattle.san_leaf.specs.Outcomes.{piece_by}

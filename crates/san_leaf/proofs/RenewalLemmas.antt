@@ -1,7 +1,8 @@
 -- A renewal in the values that a piece read.
-use Rattle.std.proofs.Common.{ℕ, ℤ, zero, suc, ◌+◌, ◌<◌, ◌≤◌, ◌≡◌, ◌∙◌, ap, sym, refl, subst, arith, drop, Bool, true, false, not, ◌&&◌, ◌||◌, nat_eq, List, [], ◌∷◌, length, map, None, Result}
-use Rattle.std.specs.Prelude.{slice_index, if◌then◌else◌}
-use Rattle.std.proofs.lemmas.Bool.{eq-eqb, ne_eqb}
+use Rattle.std.proofs.Common.{ℕ, ℤ, suc, ◌≡◌, ◌∙◌, ◌↔◌, ap, sym, refl, subst, Bool, true, false, not, IsTrue, true≢false, ◌||◌, nat_eq, List, [], ◌∷◌, None, Result}
+use Rattle.std.specs.Prelude.{if◌then◌else◌}
+use Rattle.std.proofs.lemmas.Bool.{eq-eqb, eqb-true}
+use Rattle.san_base.proofs.Bools.{and_true, both_true}
 use Rattle.san_base.specs.declared.ending.Trap.{Trap}
 use Rattle.san_base.specs.declared.piece.Kind.{Kind}
 use Rattle.san_base.specs.declared.piece.Kind.TheVariants as piece
@@ -27,39 +28,28 @@ use Rattle.san_leaf.specs.inner.Gathers.{joined, shared_of}
 use Rattle.san_leaf.specs.inner.Renewals.{any_pair, refreshed_by}
 use Rattle.san_leaf.proofs.GatherLemmas.{firsts, joined_reads, joined_sees}
 
--- lists of values, item by item
-pub unequal_lengths : (xs ys : List ℕ) → (length xs ≡ length ys → ⊥) → same_list xs ys ≡ false
-unequal_lengths [] [] apart = absurd (apart refl)
-unequal_lengths [] (y ∷ ys) apart = refl
-unequal_lengths (x ∷ xs) [] apart = refl
-unequal_lengths (x ∷ xs) (y ∷ ys) apart = by_test (nat_eq x y) (unequal_lengths xs ys (λ e. apart (ap suc e)))
+-- lists that are compared as wholes
+same_only : (xs ys : List ℕ) → same_list xs ys ≡ true → xs ≡ ys
+same_only [] [] e = refl
+same_only [] (y ∷ ys) e = cc
+same_only (x ∷ xs) [] e = cc
+same_only (x ∷ xs) (y ∷ ys) e =
+    let both = both_true (nat_eq x y) (same_list xs ys) e in
+    ap (λ (z : ℕ). z ∷ xs) (eqb-true x y both.0) ∙ ap (λ (zs : List ℕ). y ∷ zs) (same_only xs ys both.1)
+
+equal_same : (xs ys : List ℕ) → xs ≡ ys → same_list xs ys ≡ true
+equal_same [] [] e = refl
+equal_same [] (y ∷ ys) e = cc
+equal_same (x ∷ xs) [] e = cc
+equal_same (x ∷ xs) (y ∷ ys) e = and_true (nat_eq x y) (same_list xs ys) (eq-eqb x y cc) (equal_same xs ys cc)
+
+pub differ_by : (b : Bool) (xs ys : List ℕ) → (IsTrue b ↔ (xs ≡ ys)) → not b ≡ not (same_list xs ys)
+differ_by true xs ys tells = ap not (sym (equal_same xs ys (tells.0 refl)))
+differ_by false xs ys tells = by_test (same_list xs ys) refl
   where
-    by_test : (b : Bool) → same_list xs ys ≡ false → (b && same_list xs ys) ≡ false
-    by_test true e = e
+    by_test : (c : Bool) → same_list xs ys ≡ c → true ≡ not c
+    by_test true e = absurd (true≢false (sym (tells.1 (same_only xs ys e))))
     by_test false e = refl
-
-pub differs_at : (xs ys : List ℕ) (k : ℕ) → k < length xs → length xs ≡ length ys → (slice_index xs k ≡ slice_index ys k → ⊥) → same_list (drop k xs) (drop k ys) ≡ false
-differs_at [] ys k lt l apart = absurd (omega (arith, lt))
-differs_at (x ∷ xs) [] k lt l apart = cc
-differs_at (x ∷ xs) (y ∷ ys) zero lt l apart = ap (λ (b : Bool). b && same_list xs ys) (ne_eqb x y apart)
-differs_at (x ∷ xs) (y ∷ ys) (suc k) lt l apart = differs_at xs ys k (omega (arith, lt)) (omega (arith, l)) apart
-
-agrees_next : (xs ys : List ℕ) (k : ℕ) → k < length xs → length xs ≡ length ys → slice_index xs k ≡ slice_index ys k → same_list (drop k xs) (drop k ys) ≡ same_list (drop (suc k) xs) (drop (suc k) ys)
-agrees_next [] ys k lt l is = absurd (omega (arith, lt))
-agrees_next (x ∷ xs) [] k lt l is = cc
-agrees_next (x ∷ xs) (y ∷ ys) zero lt l is = ap (λ (b : Bool). b && same_list xs ys) (eq-eqb x y is)
-agrees_next (x ∷ xs) (y ∷ ys) (suc k) lt l is = agrees_next xs ys k (omega (arith, lt)) (omega (arith, l)) is
-
-pub agrees_at : (xs ys : List ℕ) (k : ℕ) → k < length xs → length xs ≡ length ys → slice_index xs k ≡ slice_index ys k → same_list (drop k xs) (drop k ys) ≡ same_list (drop (k + 1) xs) (drop (k + 1) ys)
-agrees_at xs ys k lt l is = let next : suc k ≡ k + 1 = omega arith in agrees_next xs ys k lt l is ∙ ap (λ (n : ℕ). same_list (drop n xs) (drop n ys)) next
-
-pub all_agree : (xs ys : List ℕ) (k : ℕ) → length xs ≤ k → length xs ≡ length ys → same_list (drop k xs) (drop k ys) ≡ true
-all_agree [] [] zero le l = refl
-all_agree [] [] (suc k) le l = refl
-all_agree [] (y ∷ ys) k le l = cc
-all_agree (x ∷ xs) ys zero le l = absurd (omega (arith, le))
-all_agree (x ∷ xs) [] (suc k) le l = cc
-all_agree (x ∷ xs) (y ∷ ys) (suc k) le l = all_agree xs ys k (omega (arith, le)) (omega (arith, l))
 
 -- an activity with a pair, by the law
 pairs_are : (terms : List ImpulseTerm) (k : ℕ) (acts : List Named) → some_pair (activities_from terms k acts) ≡ any_pair acts

@@ -3,10 +3,10 @@ use Rattle.std.proofs.Common.{ℕ, zero, suc, ◌+◌, ◌<◌, ◌≡◌, ◌�
 use Rattle.std.specs.Prelude.{slice_index}
 use Rattle.std.proofs.lemmas.List.{ext_get_or, length-map}
 use Rattle.san_draw.specs.Key.{draw_of}
-use Rattle.san_expr.specs.Meaning.{Outcome}
+use Rattle.san_expr.specs.Meaning.{Evaluation}
 use Rattle.san_expr.specs.Meets.{Meets, marking_of}
-use Rattle.san_expr.specs.View.{Agrees, IsAt, Known, ViewState, is_known, or_else, over}
-use Rattle.san_expr.proofs.ViewLemmas.{slice_index-over}
+use Rattle.san_expr.specs.View.{Agrees, IsAt, ViewState, is_known, or_else, over}
+use Rattle.san_expr.proofs.ViewLemmas.{length-over, slice_index-over}
 use Rattle.san_base.specs.declared.piece.Kind.{Kind}
 use Rattle.san_law.specs.Net.{Net, Row}
 use Rattle.san_law.specs.Net.{Private, Shared, Slot}
@@ -54,15 +54,11 @@ own_there (Private q ∷ ss) (v ∷ values) shared (suc i) = own_there ss values
 own_there (Shared q ∷ ss) values shared zero = refl
 own_there (Shared q ∷ ss) values shared (suc i) = own_there ss values shared i
 
-over_long : (own : Known) (m : List ℕ) → length (over own m) ≡ length m
-over_long own [] = refl
-over_long own (x ∷ m) = ap suc (over_long (λ p. own (suc p)) m)
-
 -- so that they change nothing of it
 over_leaf_view : (ss : List Slot) (values shared : List ℕ) → over (known (starts ss values)) (leaf_view ss values shared) ≡ leaf_view ss values shared
 over_leaf_view ss values shared =
-    ext_get_or 0 (over (known (starts ss values)) (leaf_view ss values shared)) (leaf_view ss values shared) (over_long (known (starts ss values)) (leaf_view ss values shared))
-    (λ i h. slice_index-over (known (starts ss values)) (leaf_view ss values shared) i (omega (arith, h, over_long (known (starts ss values)) (leaf_view ss values shared))) ∙ own_there ss values shared i)
+    ext_get_or 0 (over (known (starts ss values)) (leaf_view ss values shared)) (leaf_view ss values shared) (length-over (known (starts ss values)) (leaf_view ss values shared))
+    (λ i h. slice_index-over (known (starts ss values)) (leaf_view ss values shared) i (omega (arith, h, length-over (known (starts ss values)) (leaf_view ss values shared))) ∙ own_there ss values shared i)
 
 -- a cell that is noted has the value that the leaf sees, where the shared values agree
 module _ (shared : List ℕ) where
@@ -183,7 +179,7 @@ module _ (p : Part) (seed time : ℕ) (base : LeafState) (accepted : IsAccepted 
   abbrev ss : List Slot
   ss = slots_in p
 
-  abbrev block : List ℕ → Outcome Made
+  abbrev block : List ℕ → Evaluation Made
   block = made_of (draw_of seed) p fired base.row.cases
 
   abbrev before : ViewState
@@ -219,7 +215,7 @@ module _ (p : Part) (seed time : ℕ) (base : LeafState) (accepted : IsAccepted 
       left = meets.left v agrees ∙ ap (λ (m : List ℕ). (block m).left) same
 
       left_long : length (block v).left ≡ length ss
-      left_long = ap length (sym left) ∙ over_long (known cells) v ∙ leaf_view_long ss base.values shared
+      left_long = ap length (sym left) ∙ length-over (known cells) v ∙ leaf_view_long ss base.values shared
 
       left_so : (i : ℕ) → i < length ss → slice_index (block v).left i ≡ or_else (known cells i) (slice_index (block v).left i)
       left_so i l =

@@ -4,7 +4,7 @@ use Rattle.std.proofs.Math.Path.{fun_ext}
 use Rattle.std.proofs.lemmas.Bool.{cases_eq, eq-eqb, ne_eqb}
 use Rattle.std.proofs.lemmas.List.{get_or-set_same, get_or-set_other}
 use Rattle.san_base.specs.declared.limits.TheConstants.{MAX_TOKENS}
-use Rattle.san_expr.specs.View.{Answers, IsBehind, Known, Reads, ViewState, assigned, with}
+use Rattle.san_expr.specs.View.{Answers, IsBehind, Known, ReadsCell, ViewState, assigned, with}
 use Rattle.san_leaf.specs.Views.{Shows}
 use Rattle.san_leaf.specs.inner.ViewStates.{Seeing, behind_of, code_of, kept_of, known, view_state_of}
 
@@ -33,7 +33,7 @@ seeing places own first marking kept = record { places = places; own = own; firs
 
 -- a first read enters the value that the lent view gave
 pub first_read : (s : Seeing) (p v : ℕ) → p < length s.places → p < length s.first → known s.own p ≡ None → known s.first p ≡ None
-    → v ≤ MAX_TOKENS → Shows s.marking (slice_index s.places p) v → Reads (view_state_of s) (view_state_of (seeing s.places s.own (slice_set s.first p (Some v)) s.marking s.kept)) p v
+    → v ≤ MAX_TOKENS → Shows s.marking (slice_index s.places p) v → ReadsCell (view_state_of s) (view_state_of (seeing s.places s.own (slice_set s.first p (Some v)) s.marking s.kept)) p v
 first_read s p v h l none unread small shown =
     let after : ViewState = view_state_of (seeing s.places s.own (slice_set s.first p (Some v)) s.marking s.kept) in
     subst (λ (a : Option ℕ). Answers a (known s.first p) (view_state_of s) after p v) (sym none)
@@ -45,15 +45,15 @@ pub read_there : (places : List ℕ) (own first after : List (Option ℕ)) (o o'
     → now ≡ seeing places own first o kept
     → p < length now.places → length first ≡ length places → known own p ≡ None → known first p ≡ None → after ≡ slice_set first p (Some v) → v ≤ MAX_TOKENS
     → Shows o (slice_index places p) v → o' ≡ o → kept' ≡ kept
-    → Reads (view_state_of now) (view_state_of (seeing places own after o' kept')) p v
+    → ReadsCell (view_state_of now) (view_state_of (seeing places own after o' kept')) p v
 read_there places own first after o o' kept kept' p v now is h sized none unread new small shown same keeps =
     let s : Seeing = seeing places own first o kept in
     let below : p < length places = subst (λ (x : Seeing). p < length x.places) is h in
     let r = first_read s p v below (omega (arith, below, sized)) none unread small shown in
-    subst (λ (x : Seeing). Reads (view_state_of x) (view_state_of (seeing places own after o' kept')) p v) (sym is)
-    (subst (λ (fs : List (Option ℕ)). Reads (view_state_of s) (view_state_of (seeing places own fs o' kept')) p v) (sym new)
-    (subst (λ (m : Option (List ℕ)). Reads (view_state_of s) (view_state_of (seeing places own (slice_set first p (Some v)) m kept')) p v) (sym same)
-    (subst (λ (ks : List ℕ). Reads (view_state_of s) (view_state_of (seeing places own (slice_set first p (Some v)) o ks)) p v) (sym keeps) r)))
+    subst (λ (x : Seeing). ReadsCell (view_state_of x) (view_state_of (seeing places own after o' kept')) p v) (sym is)
+    (subst (λ (fs : List (Option ℕ)). ReadsCell (view_state_of s) (view_state_of (seeing places own fs o' kept')) p v) (sym new)
+    (subst (λ (m : Option (List ℕ)). ReadsCell (view_state_of s) (view_state_of (seeing places own (slice_set first p (Some v)) m kept')) p v) (sym same)
+    (subst (λ (ks : List ℕ). ReadsCell (view_state_of s) (view_state_of (seeing places own (slice_set first p (Some v)) o ks)) p v) (sym keeps) r)))
 
 -- an assignment
 pub set_cell : (s : Seeing) (p v : ℕ) → p < length s.own → view_state_of (seeing s.places (slice_set s.own p (Some v)) s.first s.marking s.kept) ≡ assigned (view_state_of s) p v

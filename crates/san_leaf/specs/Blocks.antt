@@ -3,7 +3,7 @@ use Rattle.std.specs.Prelude.{ℕ, zero, suc, ◌+◌, nat_eq, List, [], ◌∷�
 use Rattle.san_base.specs.declared.ending.Trap.{Trap}
 use Rattle.san_base.specs.declared.ending.Trap.TheVariants.{Arith}
 use Rattle.san_base.specs.Rated.{rated_by}
-use Rattle.san_expr.specs.Meaning.{Meaning, Outcome, no_cell, settled, then_do}
+use Rattle.san_expr.specs.Meaning.{Meaning, Evaluation, no_cell, settled, then_do}
 use Rattle.san_expr.specs.Value.{value_of}
 use Rattle.san_law.specs.Activity.{case_stream}
 use Rattle.san_law.specs.Block.{Close, Completion, FailsDone, FailsTest, More, Rests}
@@ -18,7 +18,7 @@ use Rattle.san_net.specs.declared.part.Part.{Part}
 use Rattle.san_net.specs.declared.first.FirstInstant.TheVariants as instant
 
 -- a trap that takes its assignments back
-abbrev pub back_by : {T : Type 0} → List ℕ → Outcome T → Result T Trap → Outcome (Result T Trap)
+abbrev pub back_by : {T : Type 0} → List ℕ → Evaluation T → Result T Trap → Evaluation (Result T Trap)
 back_by m o (Ok x) = record { answer = Ok (Ok x); left = o.left; looks = o.looks; sets = o.sets }
 back_by m o (Err t) = record { answer = Ok (Err t); left = m; looks = o.looks; sets = no_cell }
 

@@ -1,7 +1,7 @@
 -- A block of a leaf's completions is what the law says of the leaf.
 use Rattle.std.specs.Prelude.{ℕ, ◌≡◌, Bool, List, Result, Ok, Err}
 use Rattle.san_base.specs.declared.ending.Trap.{Trap}
-use Rattle.san_expr.specs.Meaning.{Outcome}
+use Rattle.san_expr.specs.Meaning.{Evaluation}
 use Rattle.san_law.specs.Alone.{alone}
 use Rattle.san_net.specs.Accepted.{IsAccepted}
 use Rattle.san_net.specs.Leaf.{leaf_of}
@@ -28,7 +28,7 @@ abbrev pub Is : law.Block → net.Row → List ℕ → (ℕ → Bool) → Result
 Is b row left sets (Err t) = ⊥
 Is b row left sets (Ok made) = b ≡ block_by row left sets made
 
-abbrev pub IsOf : law.Block → net.Row → Outcome Made → Type 0
+abbrev pub IsOf : law.Block → net.Row → Evaluation Made → Type 0
 IsOf b row o = Is b row o.left o.sets o.answer
 
 abbrev pub IsBlock : (ℕ → ℕ → ℕ) → Part → ℕ → Type 0

@@ -7,5 +7,6 @@ pub mod Lawful
 pub mod Outcomes
 pub mod Pieces
 pub mod States
+pub mod Timers
 pub mod Views
 pub mod inner

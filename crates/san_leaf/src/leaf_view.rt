@@ -1,7 +1,7 @@
 //! A leaf's cells over a lent view of the places that several leaves share.
 
 ghost use Rattle.std.specs.Prelude.{◌≡◌, ◌<◌, ◌≤◌, ℕ, List, Option, length, map};
-ghost use Rattle.san_expr.specs.View.{Reads, ViewState, assigned};
+ghost use Rattle.san_expr.specs.View.{ReadsCell, ViewState, assigned};
 ghost use Rattle.san_leaf.specs.Views.{Shows};
 ghost use Rattle.san_leaf.specs.inner.ViewStates.{Seeing, view_state_of};
 

@@ -1,6 +1,8 @@
 //! A piece of a leaf's work.
 
 ghost use Rattle.std.specs.Prelude.{◌≡◌, map};
+ghost use Rattle.san_leaf.specs.Claimed.{claim_of};
+ghost use Rattle.san_leaf.specs.Fits.{Fits};
 ghost use Rattle.san_leaf.specs.Outcomes.{IsNumbered, outcome_in, piece_by};
 ghost use Rattle.san_leaf.specs.Pieces.{IsSound};
 ghost use Rattle.san_leaf.specs.States.{pair_in};
@@ -60,30 +62,42 @@ impl Piece {
         let _ = &self.seed;
     }
 
+    /// What it was made from fits.
+    pub fn fits(&self)
+        ensures { Fits (claim_of self.now) }
+    {
+        let _ = &self.kind;
+    }
+
+    /// The seed of its draws.
     pub fn seed(&self) -> u64
         ensures { result ≡ self.now.seed }
     {
         self.seed
     }
 
+    /// The leaf's part of the network.
     pub fn part(&self) -> &Shared<Part>
         ensures { result.now ≡ self.now.part }
     {
         &self.part
     }
 
+    /// The state that it begins with.
     pub fn base(&self) -> &Shared<LeafState>
         ensures { result.now ≡ self.now.base }
     {
         &self.base
     }
 
+    /// What it does.
     pub fn kind(&self) -> Kind
         ensures { result ≡ self.now.kind }
     {
         self.kind
     }
 
+    /// The time of all its completions, or of its renewal.
     pub fn time(&self) -> Tick
         ensures { result.0 ≡ self.now.time }
     {
@@ -97,11 +111,21 @@ impl Piece {
         &self.log
     }
 
+    /// What it makes, with activities in the network's numbers.
     pub fn outcome(&self) -> &Outcome
         ensures same { outcome_in self.now.part.first.0 result.now ≡ self.now.outcome }
         ensures numbered { IsNumbered self.now.part.first.0 self.now.time result.now }
     {
         &self.outcome
+    }
+
+    /// What it makes, without what it was made from.
+    pub fn into_outcome(self) -> Outcome
+        ensures same { outcome_in self.part.first.0 result ≡ self.outcome }
+        ensures numbered { IsNumbered self.part.first.0 self.time result }
+    {
+        let Piece { outcome, .. } = self;
+        outcome
     }
 }
 

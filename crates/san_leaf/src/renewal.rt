@@ -14,9 +14,10 @@ use crate::block::Close;
 use crate::outcome::Outcome;
 use crate::piece::Claim;
 use crate::rates::rates;
+use crate::same::same_row;
 use crate::state::LeafState;
 use crate::work::idle_outcome;
-use san_base::{MAX_ACTS, Name, NoMemory, Shared, Trap};
+use san_base::{MAX_ACTS, Name, NoMemory, Shared, Trap, all_same};
 use san_clock::{Renewal, Row, renew};
 use san_delay::DelayTables;
 use san_draw::DrawSource;
@@ -24,29 +25,12 @@ use san_expr::Marking;
 use san_net::{ActKind, Activity};
 use std::alloc::Global;
 
-/// Whether two lists of equal length have the same values.
-fn same_items(a: &[u32], b: &[u32]) -> bool
-    requires { length a.now ≡ length b.now }
-    ensures { result ≡ same_list a.now b.now }
-{
-    'values: for k in 0..a.len() {
-        if a[k] != b[k] {
-            return false;
-        }
-    }
-    true
-}
-
 /// Whether two lists of values differ.
-#[tactic(auto, using(crate::proofs::RenewalLemmas::unequal_lengths))]
+#[tactic(auto, using(crate::proofs::RenewalLemmas::differ_by))]
 fn differ(a: &[u32], b: &[u32]) -> bool
     ensures { result ≡ not (same_list a.now b.now) }
 {
-    if a.len() == b.len() {
-        !same_items(a, b)
-    } else {
-        true
-    }
+    !all_same(a, b)
 }
 
 /// The row that the renewal leaves, or the activity that traps.
@@ -97,14 +81,31 @@ fn has_pair(acts: &[(Name, Activity)]) -> bool
 }
 
 /// What a leaf keeps of the values that it renewed in: all of them where an activity has a pair.
-fn seen(alloc: Global, acts: &[(Name, Activity)], values: &[u32]) -> Result<Vec<u32>, NoMemory>
-    ensures { IfOk result (λ v. v.items ≡ if any_pair acts.now then values.now else []) }
+fn seen<'a>(acts: &[(Name, Activity)], values: &'a [u32]) -> &'a [u32]
+    ensures { result.now ≡ if any_pair acts.now then values.now else [] }
 {
-    if has_pair(acts) {
-        Ok(values.to_vec(alloc)?)
-    } else {
-        Ok(Vec::new(alloc))
+    if has_pair(acts) { values } else { &[] }
+}
+
+/// The state that a renewal leaves: shared with the base where nothing changed.
+fn fresh_state(
+    alloc: Global,
+    base: &Shared<LeafState>,
+    row: Row,
+    seen: &[u32],
+) -> Result<Shared<LeafState>, NoMemory>
+    ensures { IfOk result (λ s. s ≡ record { values = base.now.values; row = row; seen = seen.now }) }
+{
+    let before = base.get();
+    if same_row(&before.row, &row) && all_same(&before.seen, seen) {
+        return base.share();
     }
+    let state = LeafState {
+        values: before.values.to_vec(alloc)?,
+        row,
+        seen: seen.to_vec(alloc)?,
+    };
+    Shared::new(alloc, state)
 }
 
 /// The outcome of a renewal that leaves a row.
@@ -121,15 +122,11 @@ fn fresh_outcome(
     ensures numbered { IfOk result (IsNumbered claim.now.part.first.0 claim.now.time.0) }
 {
     let atomic = claim.part.get().atomic.get();
-    let state = LeafState {
-        values: claim.base.get().values.to_vec(alloc)?,
-        row,
-        seen: seen(alloc, atomic.acts.as_slice(), cells.as_slice())?,
-    };
+    let seen = seen(atomic.acts.as_slice(), cells.as_slice());
     Ok(Outcome {
         events: Vec::new(alloc),
         writes: Vec::new(alloc),
-        state: Shared::new(alloc, state)?,
+        state: fresh_state(alloc, &claim.base, row, seen)?,
         impulses: Vec::new(alloc),
         rates: rates(alloc, atomic.rates.as_slice(), cells)?,
         fault: None,

@@ -1,5 +1,5 @@
 -- The outcome of a piece's completions, by what was made and the cells as they are then.
-use Rattle.std.specs.Prelude.{ℕ, List, [], ◌∷◌, Option, Some, None, false}
+use Rattle.std.specs.Prelude.{ℕ, List, [], ◌∷◌, Option, Some, None}
 use Rattle.san_law.specs.Block.{Completion, fault_of, more_of}
 use Rattle.san_law.specs.Net.{Row, without_timer}
 use Rattle.san_law.specs.Piece.{LeafState, Outcome}

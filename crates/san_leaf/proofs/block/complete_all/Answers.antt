@@ -1,4 +1,4 @@
-use Rattle.std.proofs.Common.{◌≡◌, ℕ, Option, sym, subst}
+use Rattle.std.proofs.Common.{ℕ, Option, sym, subst}
 use Rattle.san_draw.specs.Key.{draw_of}
 use Rattle.san_leaf.specs.Blocks.{made_of}
 use Rattle.san_leaf.specs.inner.Turns.{IsMade}

@@ -1,12 +1,9 @@
-use Rattle.std.proofs.Common.{◌≡◌, ◌∙◌, ◌+◌, ◌≤◌, ℕ, List, All, ap, arith, subst, length}
-use Rattle.san_clock.specs.Rows.{counted_by}
+use Rattle.std.proofs.Common.{◌≡◌, ◌∙◌, List, ap, subst}
 use Rattle.san_draw.specs.Key.{draw_of}
-use Rattle.san_law.specs.Net.{Row}
 use Rattle.san_net.specs.declared.atomic.Atomic.{Atomic}
 use Rattle.san_net.specs.declared.atomic.ImpulseTerm.{ImpulseTerm}
 use Rattle.san_leaf.specs.inner.ViewStates.{view_state_of}
 use Rattle.san_leaf.specs.inner.Impulses.{Records}
-use Rattle.san_leaf.proofs.CountLemmas.{counts_as_many, counts_up}
 use Rattle.san_leaf.proofs.TurnLemmas.{fails_done, goes_on}
 use Rattle.san_leaf.proofs.block.complete_next.Goals as goal
 

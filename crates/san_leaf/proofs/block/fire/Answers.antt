@@ -1,4 +1,4 @@
-use Rattle.std.proofs.Common.{arith, ◌≡◌, ◌-◌, ◌^◌, ◌≤◌, ◌<◌, ℕ, List, All, Option, Some, None, subst}
+use Rattle.std.proofs.Common.{arith, ◌-◌, ◌^◌, ◌≤◌, ◌<◌, ℕ, List, All, Option, subst}
 use Rattle.std.proofs.lemmas.Result.{IfOk-weaker}
 use Rattle.san_draw.specs.Key.{draw_of}
 use Rattle.san_leaf.specs.Blocks.{block_of, done_of, fired_of}

@@ -1,4 +1,4 @@
-use Rattle.std.proofs.Common.{◌<◌, ◌≡◌, ℕ, IsTrue, Ok, sym, subst, length}
+use Rattle.std.proofs.Common.{◌<◌, ℕ, IsTrue, Ok, sym, subst, length}
 use Rattle.std.proofs.lemmas.Result.{IfOk-weaker}
 use Rattle.san_draw.specs.Key.{draw_of}
 use Rattle.san_net.specs.Below.{acts_below}

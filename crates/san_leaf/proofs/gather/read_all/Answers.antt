@@ -1,4 +1,4 @@
-use Rattle.std.proofs.Common.{arith, ◌≡◌, ◌∙◌, ◌++◌, ◌∷◌, [], ap, map, sym, subst, List, Option, ℕ}
+use Rattle.std.proofs.Common.{arith, ◌∙◌, ap, map, sym, subst, List, Option, ℕ}
 use Rattle.std.proofs.lemmas.Grind.{common_steps}
 use Rattle.san_base.specs.declared.numbers.PlaceId.{PlaceId}
 use Rattle.san_leaf.specs.Claimed.{IsReadFrom}

@@ -8,7 +8,7 @@ use Rattle.san_net.specs.Laid.{place_of}
 use Rattle.san_net.specs.Leaf.{slot_in}
 use Rattle.san_net.specs.declared.part.Part.{Part}
 use Rattle.san_law.specs.Net.{Row}
-use Rattle.san_law.specs.Piece.{LeafState, privates}
+use Rattle.san_law.specs.Piece.{LeafState}
 use Rattle.san_leaf.specs.Blocks.{made_of}
 use Rattle.san_leaf.specs.Claims.{claimed}
 use Rattle.san_draw.specs.Key.{draw_of}

@@ -1,4 +1,4 @@
-use Rattle.std.proofs.Common.{◌≡◌, ◌∙◌, ap, map, length, List, ℕ, sym}
+use Rattle.std.proofs.Common.{◌≡◌, ◌∙◌, ap, map, length, List, ℕ}
 use Rattle.std.proofs.lemmas.List.{length-map}
 use Rattle.san_law.specs.Piece.{LeafState}
 use Rattle.san_net.specs.Leaf.{slot_in}
