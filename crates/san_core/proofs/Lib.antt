@@ -1,0 +1,13 @@
+pub mod Passes
+pub mod Suiting
+pub mod Bounding
+pub mod Counting
+pub mod ImpulseLemmas
+pub mod Firing
+pub mod Dues
+pub mod Lists
+pub mod Puts
+pub mod Takes
+pub mod TakePieces
+pub mod Following
+pub mod Opening

@@ -1,0 +1,4 @@
+pub mod Nets
+pub mod Committed
+pub mod Machines
+pub mod inner
