@@ -7,8 +7,6 @@ mod chains;
 #[cfg(test)]
 mod draws;
 #[cfg(test)]
-mod flattened;
-#[cfg(test)]
 mod lines;
 #[cfg(test)]
 mod logs;

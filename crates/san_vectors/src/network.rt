@@ -145,47 +145,63 @@ pub(crate) fn put_and_get(alloc: Global) -> Result<Flat, NoMemory>
     Flat::assemble(alloc, parts, paths, initial, 1, rewards)
 }
 
+/// The same network, of which nothing is known but what is asked.
+pub(crate) fn example(alloc: Global) -> Result<Flat, NoMemory> {
+    put_and_get(alloc)
+}
+
 #[test]
 fn assembled_and_read_back(rt: HostRuntime) -> Result<(), Fail> {
-    let flat = put_and_get(rt.alloc())?;
-    assert_eq!(rt;
-        (flat.leaves(), flat.acts(), flat.places(), flat.shared()),
-        (2, 3, 3, 1)
-    );
+    let flat = example(rt.alloc())?;
+    assert!(rt; flat.leaves() == 2);
+    assert_eq!(rt; (flat.acts(), flat.places(), flat.shared()), (3, 3, 1));
     assert_eq!(rt; flat.path(LeafId(0)), b"a".as_slice());
     assert_eq!(rt; flat.path(LeafId(1)), b"b".as_slice());
-    let (put, get) = (flat.part(LeafId(0)).get(), flat.part(LeafId(1)).get());
-    assert_eq!(rt; (put.leaf, put.first), (LeafId(0), ActId(0)));
-    assert_eq!(rt; (get.leaf, get.first), (LeafId(1), ActId(1)));
-    let put_slots = [Slot::Shared(PlaceId(0)), Slot::Private(PlaceId(1))];
-    let get_slots = [Slot::Private(PlaceId(2)), Slot::Shared(PlaceId(0))];
-    assert_eq!(rt; put.slots.as_slice(), put_slots.as_slice());
-    assert_eq!(rt; get.slots.as_slice(), get_slots.as_slice());
-    assert!(rt; put.atomic.get().same(&putter(rt.alloc())?));
-    assert!(rt; get.atomic.get().same(&getter(rt.alloc())?));
     assert_eq!(rt; flat.rewards().len(), 1);
-    assert!(rt; flat.same(&put_and_get(rt.alloc())?));
+    assert!(rt; flat.same(&example(rt.alloc())?));
     Ok(())
 }
 
 #[test]
+fn parts_read_back(rt: HostRuntime) -> Result<(), Fail> {
+    let flat = example(rt.alloc())?;
+    assert!(rt; flat.leaves() == 2);
+    let put = put_part(rt.alloc())?;
+    let get = get_part(rt.alloc())?;
+    assert!(rt; flat.part(LeafId(0)).get().same(&put));
+    assert!(rt; flat.part(LeafId(1)).get().same(&get));
+    Ok(())
+}
+
+/// A place's initial value and the leaves that have it, where there is such a place.
+fn place_of(flat: &Flat, place: u32) -> Option<(u32, &[LeafId])> {
+    if place < flat.places() {
+        let place = PlaceId(place);
+        Some((flat.initial(place), flat.importers(place)))
+    } else {
+        None
+    }
+}
+
+/// The leaf of an activity, where there is such a one.
+fn leaf_of(flat: &Flat, act: u32) -> Option<LeafId> {
+    if act < flat.acts() {
+        Some(flat.leaf_of(ActId(act)))
+    } else {
+        None
+    }
+}
+
+#[test]
 fn places_and_activities(rt: HostRuntime) -> Result<(), Fail> {
-    let flat = put_and_get(rt.alloc())?;
-    let places: [(u32, u32, &[LeafId]); 3] = [
-        (0, 0, &[LeafId(0), LeafId(1)]),
-        (1, 1, &[LeafId(0)]),
-        (2, 0, &[LeafId(1)]),
-    ];
-    for (place, initial, importers) in places {
-        if place < flat.places() {
-            assert_eq!(rt; flat.initial(PlaceId(place)), initial, "at {place}");
-            assert_eq!(rt; flat.importers(PlaceId(place)), importers, "at {place}");
-        }
-    }
-    for (act, leaf) in [(0, 0), (1, 1), (2, 1)] {
-        if act < flat.acts() {
-            assert_eq!(rt; flat.leaf_of(ActId(act)), LeafId(leaf), "at {act}");
-        }
-    }
+    let flat = example(rt.alloc())?;
+    let both = [LeafId(0), LeafId(1)];
+    assert_eq!(rt; place_of(&flat, 0), Some((0, both.as_slice())));
+    assert_eq!(rt; place_of(&flat, 1), Some((1, [LeafId(0)].as_slice())));
+    assert_eq!(rt; place_of(&flat, 2), Some((0, [LeafId(1)].as_slice())));
+    assert_eq!(rt; place_of(&flat, 3), None);
+    assert_eq!(rt; leaf_of(&flat, 0), Some(LeafId(0)));
+    assert_eq!(rt; leaf_of(&flat, 1), Some(LeafId(1)));
+    assert_eq!(rt; leaf_of(&flat, 2), Some(LeafId(1)));
     Ok(())
 }

@@ -1,5 +1,6 @@
-//! A top call over a source and sinks in memory, and what it left behind.
+//! A call of a row, the top ones over a source and sinks in memory, and what it left behind.
 
+use crate::below::call_below;
 use san_base::{MemSink, MemSource, NoMemory};
 use san_cmd::{Status, plain_words, run_words, show_words};
 use std::alloc::Global;
@@ -18,7 +19,7 @@ pub(crate) enum Side {
     Notes,
 }
 
-/// A top call, its words, the bytes that a read or put moves at most, and the call of the outside
+/// A call, its words, the bytes that a read or put moves at most, and the call of the outside
 /// that fails.
 #[derive(Clone, Copy)]
 pub(crate) struct Call<'a> {
@@ -66,8 +67,19 @@ impl<'a> Call<'a> {
         Ok(calls)
     }
 
-    /// Makes the call on a text; none where there is no call of the name.
-    pub(crate) fn run(&self, alloc: Global, text: &[u8]) -> Result<Option<Ran>, NoMemory> {
+    /// Makes a call below the top on a text.
+    fn run_below(&self, alloc: Global, text: &[u8]) -> Result<Ran, NoMemory> {
+        let (status, output) = call_below(alloc, self.name, self.words, text)?;
+        Ok(Ran {
+            status: status.code(),
+            output,
+            notes: Vec::new(alloc),
+            reads: 0,
+        })
+    }
+
+    /// Makes a top call on a text; none where there is no such call.
+    fn run_top(&self, alloc: Global, text: &[u8]) -> Result<Option<Ran>, NoMemory> {
         let words = self.all_words(alloc)?;
         let words = words.as_slice();
         let bytes = self.bytes.min(MOST_BYTES).max(1) as usize;
@@ -89,5 +101,13 @@ impl<'a> Call<'a> {
             notes: Vec::from_slice(alloc, notes.bytes())?,
             reads: source.calls(),
         }))
+    }
+
+    /// Makes the call on a text; none where there is no call of the name.
+    pub(crate) fn run(&self, alloc: Global, text: &[u8]) -> Result<Option<Ran>, NoMemory> {
+        match self.name {
+            "network" | "piece" => Ok(Some(self.run_below(alloc, text)?)),
+            _ => self.run_top(alloc, text),
+        }
     }
 }

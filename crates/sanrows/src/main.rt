@@ -1,13 +1,18 @@
-//! `sanrows [FOLDER]`: runs the rows of a folder, or of the one that it is run in, by the top calls,
-//! and tells of each whether it comes to what it says. A row that can't be read, and a folder
+//! `sanrows [FOLDER]`: runs the rows of a folder, or of the one that it is run in, by calls of the
+//! libraries, and prints of each whether it comes to what it says. A row that can't be read, and a folder
 //! without rows, are failures.
 #![tactic(auto)]
 
+mod asked;
+mod below;
 mod call;
 mod folder;
+mod network;
+mod piece;
 mod row;
 mod setting;
 mod trial;
+mod words;
 
 use crate::folder::files;
 use crate::row::{MARK, Row};
@@ -34,7 +39,7 @@ impl Count {
     }
 }
 
-/// Runs a row and tells of it; whether it came true.
+/// Runs a row and prints how it went; whether it came true.
 fn say(rt: &HostRuntime, alloc: Global, piece: &str) -> io::Result<bool> {
     let Some(row) = Row::read(piece) else {
         let name = piece.lines().next().unwrap_or("");
