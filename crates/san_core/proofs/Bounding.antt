@@ -15,17 +15,12 @@ use Rattle.san_net.specs.Network.{Network, net_of}
 use Rattle.san_net.specs.declared.atomic.ImpulseTerm.{ImpulseTerm}
 use Rattle.san_net.specs.declared.part.Part.{Part}
 use Rattle.san_core.specs.inner.Suits.{IsBounded}
-use Rattle.san_core.proofs.Suiting.{of_none, with_first}
+use Rattle.san_core.proofs.Suiting.{all_of, of_none, with_first}
 
--- what holds of each item of a list holds of those at its end, and of those that it is made of
+-- what holds of each item of a list holds of those at its end
 all_right : {X : Type 0} (P : X → Type 0) (xs ys : List X) → All P (xs ++ ys) → All P ys
 all_right P [] ys h = h
 all_right P (x ∷ xs) ys h = all_right P xs ys (λ k d l. h (suc k) d (omega (arith, l)))
-
-all_of : {X Y : Type 0} (P : Y → Type 0) (f : X → Y) (xs : List X) → All P (map f xs) → All (λ x. P (f x)) xs
-all_of P f [] h k d l = absurd (omega (arith, l))
-all_of P f (x ∷ xs) h zero d l = h 0 (f x) (omega arith)
-all_of P f (x ∷ xs) h (suc k) d l = all_of P f xs (λ i e m. h (suc i) e (omega (arith, m))) k d (omega (arith, l))
 
 module _ (rewards : ℕ) where
   abbrev IsKnown : leaf.Activity → Type 0

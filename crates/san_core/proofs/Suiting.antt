@@ -23,6 +23,12 @@ pub with_first : {X : Type 0} (P : X → Type 0) (x : X) (xs : List X) → P x �
 with_first P x xs h all zero d l = h
 with_first P x xs h all (suc k) d l = all k d (omega (arith, l))
 
+-- what holds of what the items are made into
+pub all_of : {X Y : Type 0} (P : Y → Type 0) (f : X → Y) (xs : List X) → All P (map f xs) → All (λ x. P (f x)) xs
+all_of P f [] h k d l = absurd (omega (arith, l))
+all_of P f (x ∷ xs) h zero d l = h 0 (f x) (omega arith)
+all_of P f (x ∷ xs) h (suc k) d l = all_of P f xs (λ i e m. h (suc i) e (omega (arith, m))) k d (omega (arith, l))
+
 pub of_none : {X : Type 0} (P : X → Type 0) → All P []
 of_none P k d l = absurd (omega (arith, l))
 

@@ -37,14 +37,9 @@ use Rattle.san_core.specs.inner.Impulses.{impulses_from}
 use Rattle.san_core.specs.inner.Steps.{counted_by, ended_by, with_counts}
 use Rattle.san_core.specs.inner.Suits.{Suits}
 use Rattle.san_core.proofs.Passes.{admits_passed}
-use Rattle.san_core.proofs.Suiting.{of_none}
+use Rattle.san_core.proofs.Suiting.{all_of, of_none}
 use Rattle.san_core.proofs.Takes as takes
 use Rattle.san_core.proofs.Takes.{Whole, completions_long, put_is, stop_is, taken_is}
-
-pub all_of : {X Y : Type 0} (P : Y → Type 0) (f : X → Y) (xs : List X) → All P (map f xs) → All (λ x. P (f x)) xs
-all_of P f [] h k d l = absurd (omega (arith, l))
-all_of P f (x ∷ xs) h zero d l = h 0 (f x) (omega arith)
-all_of P f (x ∷ xs) h (suc k) d l = all_of P f xs (λ i e m. h (suc i) e (omega (arith, m))) k d (omega (arith, l))
 
 all_append : {X : Type 0} (P : X → Type 0) (xs ys : List X) → All P xs → All P ys → All P (xs ++ ys)
 all_append P [] ys a b k d l = b k d l

@@ -2,6 +2,7 @@
 
 ghost use Rattle.std.specs.Prelude.{◌≡◌, ◌≤◌, ◌<◌, IfOk, OnErr, OnOk, max, vec_capacity};
 ghost use Rattle.san_base.specs.Limits.{IsInRange};
+ghost use Rattle.san_base.specs.declared.limits.TheConstants.{MAX_CELLS};
 ghost use Rattle.san_law.specs.Left.{left};
 ghost use Rattle.san_core.specs.Committed.{StartsRun};
 ghost use Rattle.san_core.specs.Machines.{FollowsRun, IsNeeded, after_taking, core_in, net_in, opened};
@@ -57,7 +58,7 @@ impl Model for Machine {
 
 /// What an order has to know of a piece, with room for the places of any piece.
 fn no_news(alloc: Global) -> Result<Taken, NoMemory>
-    ensures { IfOk result (λ t. 256 ≤ vec_capacity t.written) }
+    ensures { IfOk result (λ t. MAX_CELLS ≤ vec_capacity t.written) }
 {
     Ok(Taken {
         kind: Kind::Settle,

@@ -1,6 +1,7 @@
 //! The committed part takes a piece.
 
 ghost use Rattle.std.specs.Prelude.{◌≡◌, ◌≤◌, ◌+◌, ◌++◌, length, map, take, vec_capacity, vec_len};
+ghost use Rattle.san_base.specs.declared.limits.TheConstants.{MAX_CELLS};
 ghost use Rattle.san_core.specs.Committed.{with_taken};
 ghost use Rattle.san_core.specs.Nets.{event_in, net_at};
 ghost use Rattle.san_core.specs.inner.CanTake.{CanTake};
@@ -39,7 +40,7 @@ pub(crate) fn take_piece(
 )
     requires can { CanTake (net_at flat.now piece.seed limits.now) flat.now held.old piece }
     requires room { vec_len events.old + 64 ≤ vec_capacity events.old }
-    requires news { 256 ≤ vec_capacity news.old.written }
+    requires news { MAX_CELLS ≤ vec_capacity news.old.written }
     ensures held { held.new ≡ with_taken (net_at flat.now piece.seed limits.now) held.old
         piece.part.leaf.0 (kind_in piece.part.first.0 piece.kind) piece.time piece.outcome }
     ensures events { events.new.items ≡ events.old.items ++ map (event_in flat.now) (taken (net_at

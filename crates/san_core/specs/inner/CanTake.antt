@@ -1,6 +1,6 @@
 -- When the committed part can take a piece without memory.
 use Rattle.std.specs.Prelude.{◌≡◌, ◌≤◌, ◌*◌, Some, None, [], length, slice_get}
-use Rattle.san_base.specs.declared.limits.TheConstants.{MAX_ACTS, MAX_BURST, MAX_EVENTS}
+use Rattle.san_base.specs.declared.limits.TheConstants.{MAX_ACTS, MAX_BURST, MAX_EVENTS, MAX_EVENT_IMPULSES}
 use Rattle.san_law.specs.Net.{Net}
 use Rattle.san_leaf.specs.Pieces.{PieceValue}
 use Rattle.san_leaf.specs.States.{kind_in}
@@ -16,7 +16,7 @@ pub record CanTake (net : Net) (n : Network) (v : CommittedValue) (p : PieceValu
   pub quiet : v.core.events ≡ []
   pub most : net.burst ≤ MAX_BURST
   pub count : v.core.count ≤ MAX_EVENTS
-  pub impulses : v.core.tally.impulses ≤ 1024 * MAX_EVENTS
+  pub impulses : v.core.tally.impulses ≤ MAX_EVENT_IMPULSES * MAX_EVENTS
   pub suits : Suits net (length v.core.shared) (length n.initial) v.core.order.time (kind_in p.part.first.0 p.kind) p.time p.part.leaf.0 p.base p.outcome
   pub first : p.part.first.0 ≤ MAX_ACTS
   pub row : length p.base.row.timers ≤ MAX_ACTS

@@ -1,4 +1,5 @@
 -- What a machine keeps.
+use Rattle.san_base.specs.declared.limits.TheConstants.{MAX_CELLS}
 use Rattle.std.specs.Prelude.{ℕ, ◌≤◌, ◌+◌, ◌*◌}
 use Rattle.san_core.specs.Machines.{FollowsRun, MachineValue}
 
@@ -7,4 +8,4 @@ pub record IsMachine (m : MachineValue) (events room places : ℕ) : Type 0 wher
   pub follows : FollowsRun m
   pub spare : events + 64 * m.spare ≤ room
   pub few : m.spare ≤ 64
-  pub places_kept : 256 ≤ places
+  pub places_kept : MAX_CELLS ≤ places
