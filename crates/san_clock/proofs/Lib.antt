@@ -1,4 +1,6 @@
 pub mod AskLemmas
+pub mod CaseLemmas
+pub mod DueLemmas
 pub mod RenewalLemmas
 pub mod RenewLemmas
 pub mod RowLemmas

@@ -1,6 +1,6 @@
 //! The completion of a leaf's activity with its next case draw.
 
-ghost use Rattle.std.specs.Prelude.{◌≡◌, ◌≤◌, ◌<◌, ◌+◌, ◌*◌, Some, length, slice_get, slice_index};
+ghost use Rattle.std.specs.Prelude.{◌≡◌, ◌≢◌, ◌≤◌, ◌<◌, ◌+◌, ◌*◌, Some, length, slice_get, slice_index};
 ghost use Rattle.san_base.specs.declared.limits.TheConstants.{MAX_DRAWS};
 ghost use Rattle.san_clock.specs.Rows.{counted_by};
 ghost use Rattle.san_draw.specs.Key.{draw_of};
@@ -14,6 +14,22 @@ use san_base::{MAX_ACTS, Trap};
 use san_draw::DrawSource;
 use san_expr::Cells;
 use san_net::{Part, complete};
+
+/// The case draw with a number of an activity with so many cases. The only case is chosen by every
+/// draw, so that none is made for it.
+fn draw_for<D: DrawSource>(draws: &mut D, cases: usize, stream: u32, number: u64) -> u64
+    requires stream { stream < D.streams draws.old }
+    requires number { number < MAX_DRAWS }
+    ensures one { cases ≡ 1 → result ≡ 0 }
+    ensures more { cases ≢ 1 → result ≡ draw_of (D.seed draws.old) stream number }
+    ensures draws { draws.new ≡ draws.old }
+{
+    if cases == 1 {
+        0
+    } else {
+        draws.draw(stream, number)
+    }
+}
 
 /// Completes an activity of a leaf over a view of its cells, with its next case draw: its case.
 /// After a trap the view holds the assignments made before it, and the row is as it was.
@@ -37,9 +53,11 @@ pub fn complete_act<V: Cells, D: DrawSource>(
     ensures row { row.new ≡ counted_by result row.old act }
     ensures draws { draws.new ≡ draws.old }
 {
-    let u = draws.draw(2 * (part.first.0 + act) + 1, row.next_case(act));
     let acts = part.atomic.get().acts.as_slice();
-    let case = complete(&acts[act as usize].1, u, view);
+    let activity = &acts[act as usize].1;
+    let stream = 2 * (part.first.0 + act) + 1;
+    let u = draw_for(draws, activity.cases.len(), stream, row.next_case(act));
+    let case = complete(activity, u, view);
     if case.is_ok() {
         row.count_case(act);
     }

@@ -5,11 +5,13 @@
 mod ask;
 mod clock;
 mod completion;
+mod due;
 mod renewal;
 mod row;
 mod view;
 
 pub use completion::complete_act;
+pub use due::least_of;
 pub use renewal::{Renewal, renew};
 pub use row::{Row, Timer};
 pub use view::PlainView;

@@ -9,29 +9,13 @@ use Rattle.san_expr.specs.Meets.{Evaluates}
 use Rattle.san_expr.specs.Value.{value_of}
 use Rattle.san_expr.proofs.ComposeLemmas.{evaluates_settled, evaluates_then}
 use Rattle.san_law.specs.Net.{Impulse}
+use Rattle.san_net.proofs.FirstLemmas.{evaluates_attempt}
 use Rattle.san_net.specs.First.{attempt}
 use Rattle.san_net.specs.declared.atomic.ImpulseTerm.{ImpulseTerm}
 use Rattle.std.proofs.lemmas.List.{append_assoc}
 use Rattle.san_leaf.specs.Blocks.{and_impulses, impulse_of, impulses_by, impulses_of}
 use Rattle.san_leaf.specs.inner.Recorded.{Recorded, with_impulse, with_impulses}
 use Rattle.san_leaf.specs.inner.Impulses.{Records}
-
-evaluates_attempt : {T : Type 0} (old new : ViewState) (a : Meaning T) (r : Result T Trap) → Evaluates old new a r → Evaluates old new (attempt a) (Ok r)
-evaluates_attempt old new a r p = record {
-  meets = record {
-    answer = λ m h. ap Ok (p.meets.answer m h);
-    left = p.meets.left;
-    looks = p.meets.looks;
-    sets = p.meets.sets;
-    unset = p.meets.unset;
-    grows = p.meets.grows;
-    seen = p.meets.seen;
-    places = p.meets.places;
-    behind = p.meets.behind;
-    kept = p.meets.kept;
-  };
-  own = p.own;
-}
 
 -- a term's impulse, as it was recorded
 impulse_recorded : (old new : ViewState) (t : ImpulseTerm) (r : Result ℤ Trap) → Evaluates old new (value_of t.expr) r → Evaluates old new (impulse_of t) (Ok (record { reward = t.reward; rated = rated_by r }))

@@ -2,7 +2,6 @@ pub mod RecordLemmas
 pub mod ViewLemmas
 pub mod BackLemmas
 pub mod EndLemmas
-pub mod CountLemmas
 pub mod ImpulseLemmas
 pub mod TurnLemmas
 pub mod BlockLaws

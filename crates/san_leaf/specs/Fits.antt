@@ -25,6 +25,10 @@ IsPaired (kind.Timed delay (Some pair)) = Unit {0}
 IsPaired (kind.Timed delay None) = ⊥
 IsPaired (kind.Instant priority) = ⊥
 
+-- how many draws of a stream a state may have taken: half of all numbers, so that a piece has room for its own
+abbrev pub MAX_LEAF_DRAWS : ℕ
+MAX_LEAF_DRAWS = 2 ^ 39
+
 pub record StateFits (p : Part) (s : LeafState) : Type 0 where
   -- one for each private place, each a number of tokens
   pub values : length s.values ≡ length (privates (slots_in p))
@@ -33,8 +37,8 @@ pub record StateFits (p : Part) (s : LeafState) : Type 0 where
   pub timers : length s.row.timers ≡ length p.atomic.acts
   pub delays : length s.row.delays ≡ length p.atomic.acts
   pub cases : length s.row.cases ≡ length p.atomic.acts
-  pub delay_numbers : All (λ n. n < 2 ^ 39) s.row.delays
-  pub case_numbers : All (λ n. n < 2 ^ 39) s.row.cases
+  pub delay_numbers : All (λ n. n < MAX_LEAF_DRAWS) s.row.delays
+  pub case_numbers : All (λ n. n < MAX_LEAF_DRAWS) s.row.cases
   -- nothing, or a value for each place; where an activity with a pair has a timer, the latter
   pub seen : (s.seen ≡ []) ⊎ (length s.seen ≡ length p.atomic.initial)
   pub paired : (k : ℕ) (a : Named) (t : Timer) → slice_get p.atomic.acts k ≡ Some a → IsPaired a.1.kind → slice_get s.row.timers k ≡ Some (Some t) → length s.seen ≡ length p.atomic.initial

@@ -10,6 +10,7 @@ ghost use Rattle.san_net.specs.First.{first_of};
 ghost use Rattle.san_leaf.specs.Blocks.{block_of, done_of, fired_of, made_of, turn_of};
 ghost use Rattle.san_leaf.specs.inner.Turns.{FoundWithin, IsMade, IsWithin, TurnedTo};
 ghost use Rattle.san_leaf.specs.inner.ViewStates.{view_state_of};
+ghost use Rattle.san_leaf.specs.Fits.{MAX_LEAF_DRAWS};
 
 use crate::completion::{complete_or_back, record_impulses};
 use crate::leaf_view::{LeafView, View};
@@ -186,7 +187,7 @@ fn fire<V: View, D: DrawSource>(
     requires cases { length row.old.cases ≡ length part.now.atomic.acts }
     requires streams { 2 * (part.now.first.0 + length part.now.atomic.acts) ≤ D.streams draws.old }
     requires small { part.now.first.0 + length part.now.atomic.acts ≤ MAX_ACTS }
-    requires numbers { All (λ n. n < 2 ^ 39) row.old.cases }
+    requires numbers { All (λ n. n < MAX_LEAF_DRAWS) row.old.cases }
     requires unrecorded { recorder.old.completions ≡ [] }
     requires none { recorder.old.pending ≡ [] }
     ensures made { IfOk result (IsMade (fired_of (draw_of (D.seed draws.old)) part.now act
@@ -221,7 +222,7 @@ pub(crate) fn complete_all<V: View, D: DrawSource>(
     requires cases { length row.old.cases ≡ length part.now.atomic.acts }
     requires streams { 2 * (part.now.first.0 + length part.now.atomic.acts) ≤ D.streams draws.old }
     requires small { part.now.first.0 + length part.now.atomic.acts ≤ MAX_ACTS }
-    requires numbers { All (λ n. n < 2 ^ 39) row.old.cases }
+    requires numbers { All (λ n. n < MAX_LEAF_DRAWS) row.old.cases }
     requires unrecorded { recorder.old.completions ≡ [] }
     requires none { recorder.old.pending ≡ [] }
     ensures made { IfOk result (IsMade (made_of (draw_of (D.seed draws.old)) part.now fired

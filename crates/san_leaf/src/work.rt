@@ -10,6 +10,7 @@ ghost use Rattle.san_leaf.specs.inner.Ends.{busy, idle, nothing_recorded, outcom
 ghost use Rattle.san_leaf.specs.inner.Turns.{IsMade, IsWithin, close_in};
 ghost use Rattle.san_leaf.specs.inner.ViewStates.{view_state_of};
 ghost use Rattle.san_net.specs.Accepted.{IsAccepted};
+ghost use Rattle.san_leaf.specs.Fits.{MAX_LEAF_DRAWS};
 
 use crate::block::{Close, complete_all};
 use crate::cells::{noted, owned};
@@ -62,7 +63,7 @@ pub(crate) fn worked<V: View, D: DrawSource>(
     requires cases { length row.now.cases ≡ length part.now.atomic.acts }
     requires streams { 2 * (part.now.first.0 + length part.now.atomic.acts) ≤ D.streams draws.old }
     requires small { part.now.first.0 + length part.now.atomic.acts ≤ MAX_ACTS }
-    requires numbers { All (λ n. n < 2 ^ 39) row.now.cases }
+    requires numbers { All (λ n. n < MAX_LEAF_DRAWS) row.now.cases }
     ensures draws { draws.new ≡ draws.old }
     ensures worked { IfOk result (λ w. IsMade (made_of (draw_of (D.seed draws.old)) part.now fired
         row.now.cases) nothing_recorded w.recorder (row_by fired row.now) w.row (view_state_of view.old) (view_state_of

@@ -19,7 +19,7 @@ use Rattle.san_net.specs.declared.first.FirstInstant.{FirstInstant}
 use Rattle.san_net.specs.declared.first.FirstInstant.TheVariants as first
 
 -- a trap is an answer like others
-evaluates_attempt : {T : Type 0} (old new : ViewState) (a : Meaning T) (r : Result T Trap) → Evaluates old new a r → Evaluates old new (attempt a) (Ok r)
+pub evaluates_attempt : {T : Type 0} (old new : ViewState) (a : Meaning T) (r : Result T Trap) → Evaluates old new a r → Evaluates old new (attempt a) (Ok r)
 evaluates_attempt old new a r p = record {
   meets = record {
     answer = λ m h. ap Ok (p.meets.answer m h);

@@ -14,5 +14,6 @@ pub mod Numbering
 pub mod Laid
 pub mod First
 pub mod Tables
+pub mod Runs
 pub mod Cells
 pub mod Examples

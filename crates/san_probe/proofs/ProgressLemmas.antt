@@ -28,9 +28,9 @@ use Rattle.san_probe.proofs.OpeningLemmas.{initial_small}
 use Rattle.san_probe.proofs.SmallLemmas.{networks_small, step_small}
 use Rattle.san_probe.proofs.WatchLemmas.{watched_more}
 use Rattle.san_seq.specs.FlatRun.{On, Run, after_step, step_of, opening}
-use Rattle.san_seq.specs.Overs.{limits_in}
+use Rattle.san_net.specs.Runs.{ending_in, limits_in}
 use Rattle.san_seq.specs.Reaching.{IsInTime, IsTheLaws}
-use Rattle.san_seq.specs.Outcomes.{ending_in, stepped_of, event_or_ending}
+use Rattle.san_seq.specs.Outcomes.{stepped_of, event_or_ending}
 use Rattle.san_seq.specs.declared.steps.Stepped.TheVariants as stepped
 use Rattle.san_seq.proofs.ReachLemmas.{events_are_laws, events_in_time}
 

@@ -13,8 +13,7 @@ use Rattle.san_law.specs.Trajectory.{Trajectory, trajectory}
 use Rattle.san_net.specs.Network.{Network, net_of}
 use Rattle.san_probe.specs.declared.measured.Watched.{Watched}
 use Rattle.san_probe.specs.declared.measured.Watched.TheVariants.{Beyond, Stopped, Sum}
-use Rattle.san_seq.specs.Overs.{limits_in}
-use Rattle.san_seq.specs.Outcomes.{ending_in}
+use Rattle.san_net.specs.Runs.{ending_in, limits_in}
 
 -- a sum over so many ticks from one on
 abbrev pub sum_values : (ℕ → ℤ) → ℕ → ℕ → ℤ

@@ -72,8 +72,8 @@ zeros_read zero r = refl
 zeros_read (suc n) zero = refl
 zeros_read (suc n) (suc r) = zeros_read n r
 
-join : {X : Type 0} (P : X → Type 0) (x : X) (xs : List X) → P x → All P xs → All P (x ∷ xs)
-join P x xs h all = each
+pub with_first : {X : Type 0} (P : X → Type 0) (x : X) (xs : List X) → P x → All P xs → All P (x ∷ xs)
+with_first P x xs h all = each
   where
     each : All P (x ∷ xs)
     each zero d l = h
@@ -87,7 +87,7 @@ span_low (span.At tick) h = omega (arith, h)
 
 pub spans_low : (rs : List Reward) → All (λ r. IsSpan r.span) rs → All (λ s. s.to ≤ MAX_HORIZON + 1) (map (λ r. span_in r.span) rs)
 spans_low [] h = λ k d l. absurd (omega (arith, l))
-spans_low (r ∷ rs) h = join (λ s. s.to ≤ MAX_HORIZON + 1) (span_in r.span) (map (λ x. span_in x.span) rs) (span_low r.span (h 0 r (omega arith))) (spans_low rs (λ j x m. h (suc j) x (omega (arith, m))))
+spans_low (r ∷ rs) h = with_first (λ s. s.to ≤ MAX_HORIZON + 1) (span_in r.span) (map (λ x. span_in x.span) rs) (span_low r.span (h 0 r (omega arith))) (spans_low rs (λ j x m. h (suc j) x (omega (arith, m))))
 
 -- a reward's terms are few
 pub few_in : (r : ℕ) (qs ms : List ℕ) → counts.terms_in r qs ≤ count_by (nat_eq r) (qs ++ ms)
@@ -108,7 +108,7 @@ few_of r (p ∷ parts) h =
 -- what holds of each part's list holds of all lists
 each_row : {X : Type 0} (P : X → Type 0) (f : Part → List X) (parts : List Part) → ((k : ℕ) (p : Part) → slice_get parts k ≡ Some p → All P (f p)) → All (All P) (map f parts)
 each_row P f [] h = λ k d l. absurd (omega (arith, l))
-each_row P f (p ∷ parts) h = join (All P) (f p) (map f parts) (h 0 p refl) (each_row P f parts (λ j q e. h (suc j) q e))
+each_row P f (p ∷ parts) h = with_first (All P) (f p) (map f parts) (h 0 p refl) (each_row P f parts (λ j q e. h (suc j) q e))
 
 front : {X : Type 0} (P : X → Type 0) (xs ys : List X) → All P (xs ++ ys) → All P xs
 front P xs ys h = λ k d l. subst P (get_or_append_left xs ys d k l) (h k d (let n = length-append xs ys in omega (arith, l, n)))

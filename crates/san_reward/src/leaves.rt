@@ -6,6 +6,7 @@ ghost use Rattle.san_law.specs.Reward.{plus, zero_sum};
 ghost use Rattle.san_reward.specs.Smallness.{IsAtMost};
 ghost use Rattle.san_reward.specs.inner.Present.{amount, fault, present_at, replaced};
 ghost use Rattle.san_reward.specs.Running.{rates_with};
+ghost use Rattle.san_reward.specs.inner.Bounds.{MAX_PRESENT, MAX_SUM};
 
 use crate::present::{Present, amount, fault, plus};
 
@@ -43,7 +44,7 @@ pub(crate) fn put_rate(
 
 /// A sum with one rate in another's place.
 fn moved(sum: i128, old: Option<i64>, new: Option<i64>) -> i128
-    requires { unsigned_abs sum ≤ 2 ^ 79 }
+    requires { unsigned_abs sum ≤ MAX_PRESENT }
     ensures { result ≡ (sum -ℤ amount old) +ℤ amount new }
 {
     sum - amount(old) + amount(new)
@@ -51,7 +52,7 @@ fn moved(sum: i128, old: Option<i64>, new: Option<i64>) -> i128
 
 /// One rate in another's place.
 fn replaced(present: Present, old: Option<i64>, new: Option<i64>) -> Present
-    requires sum { unsigned_abs present.sum ≤ 2 ^ 79 }
+    requires sum { unsigned_abs present.sum ≤ MAX_PRESENT }
     requires few { present.faults ≤ MAX_LEAVES * 16 }
     requires faults { fault old ≤ present.faults }
     ensures { result ≡ replaced present old new }
@@ -65,7 +66,7 @@ fn replaced(present: Present, old: Option<i64>, new: Option<i64>) -> Present
 /// The same for the reward with a number.
 pub(crate) fn replace(present: &mut Vec<Present>, reward: u32, old: Option<i64>, new: Option<i64>)
     requires reward { reward < length present.old.items }
-    requires sum { unsigned_abs (present_at present.old.items reward).sum ≤ 2 ^ 79 }
+    requires sum { unsigned_abs (present_at present.old.items reward).sum ≤ MAX_PRESENT }
     requires few { (present_at present.old.items reward).faults ≤ MAX_LEAVES * 16 }
     requires faults { fault old ≤ (present_at present.old.items reward).faults }
     ensures { present.new.items
@@ -79,7 +80,7 @@ pub(crate) fn replace(present: &mut Vec<Present>, reward: u32, old: Option<i64>,
 /// Adds a number to a reward's sum.
 pub(crate) fn add(sums: &mut Vec<Option<i128>>, reward: u32, rated: Option<i64>)
     requires reward { reward < length sums.old.items }
-    requires small { IsAtMost (2 ^ 120) (slice_index_or sums.old.items reward zero_sum) }
+    requires small { IsAtMost MAX_SUM (slice_index_or sums.old.items reward zero_sum) }
     ensures { sums.new.items
         ≡ slice_set sums.old.items reward (plus (slice_index_or sums.old.items reward zero_sum)
         rated) }

@@ -9,6 +9,7 @@ ghost use Rattle.san_reward.specs.Running.{counted_at};
 ghost use Rattle.san_reward.specs.Smallness.{IsAtMost};
 ghost use Rattle.san_reward.specs.inner.Present.{amount, counted_on, fault, accrued, overlap, present_at};
 ghost use Rattle.std.specs.Prelude.{◌+◌, All, slice_index_or};
+ghost use Rattle.san_reward.specs.inner.Bounds.{MAX_AMOUNT, MAX_PRESENT, MAX_SUM};
 
 use san_net::Span;
 
@@ -52,8 +53,8 @@ pub(crate) fn overlap(span: Span, from: u64, to: u64) -> u64
 
 /// A sum as the present rates go on for so many ticks.
 pub(crate) fn accrue(sum: Option<i128>, present: Present, ticks: u64) -> Option<i128>
-    requires sum { IsAtMost (2 ^ 120) sum }
-    requires present { unsigned_abs present.sum ≤ 2 ^ 79 }
+    requires sum { IsAtMost MAX_SUM sum }
+    requires present { unsigned_abs present.sum ≤ MAX_PRESENT }
     requires ticks { ticks ≤ MAX_TICKS }
     ensures { result ≡ accrued sum present ticks }
 {
@@ -71,7 +72,7 @@ pub(crate) fn accrue(sum: Option<i128>, present: Present, ticks: u64) -> Option<
 
 /// A sum and one number more.
 pub(crate) fn plus(sum: Option<i128>, rated: Option<i64>) -> Option<i128>
-    requires { IsAtMost (2 ^ 120) sum }
+    requires { IsAtMost MAX_SUM sum }
     ensures { result ≡ plus sum rated }
 {
     match sum {
@@ -86,7 +87,7 @@ pub(crate) fn plus(sum: Option<i128>, rated: Option<i64>) -> Option<i128>
 /// What a rate adds to a sum.
 pub(crate) fn amount(rated: Option<i64>) -> i128
     ensures value { result ≡ amount rated }
-    ensures small { unsigned_abs result ≤ 2 ^ 63 }
+    ensures small { unsigned_abs result ≤ MAX_AMOUNT }
 {
     match rated {
         Some(value) => i128::from(value),
@@ -136,8 +137,8 @@ pub(crate) fn count_on(
     requires spans { length spans.now.items ≡ length sums.old.items }
     requires ticks { to ≤ from + MAX_TICKS }
     requires spanned { All (λ s. s.to ≤ MAX_HORIZON + 1) (map span_in spans.now.items) }
-    requires small { (r : ℕ) → IsAtMost (2 ^ 120) (slice_index_or sums.old.items r zero_sum) }
-    requires rates { (r : ℕ) → unsigned_abs (present_at present.now.items r).sum ≤ 2 ^ 79 }
+    requires small { (r : ℕ) → IsAtMost MAX_SUM (slice_index_or sums.old.items r zero_sum) }
+    requires rates { (r : ℕ) → unsigned_abs (present_at present.now.items r).sum ≤ MAX_PRESENT }
     ensures { sums.new.items
         ≡ sums_from (counted_on (map span_in spans.now.items) present.now.items from to) 0
         sums.old.items }

@@ -11,7 +11,7 @@ use Rattle.san_net.specs.Network.{Network, net_of}
 use Rattle.san_probe.specs.Markings.{IsMarkingOf}
 use Rattle.san_probe.specs.Watching.{sum_values, value_at}
 use Rattle.san_seq.specs.FlatRun.{On, Run}
-use Rattle.san_seq.specs.Overs.{limits_in}
+use Rattle.san_net.specs.Runs.{limits_in}
 
 abbrev pub net_by : Network → ℕ → Limits → Net
 net_by n seed limits = net_of n (draw_of seed) (limits_in limits)
