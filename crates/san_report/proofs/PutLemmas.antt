@@ -1,5 +1,5 @@
 -- Pieces that are put one after another.
-use Rattle.std.proofs.Common.{ℕ, ◌-◌, ◌≤◌, ◌≡◌, ◌∙◌, ap, sym, List, [], ◌∷◌, ◌++◌, length, map, take, drop, Bor, Bool, true, false, Option, Some, append_assoc, arith, slice_index_or}
+use Rattle.std.proofs.Common.{ℕ, zero, suc, ◌+◌, ◌-◌, ◌<◌, ◌≤◌, ◌≡◌, ◌∙◌, ap, sym, refl, List, [], ◌∷◌, ◌++◌, length, map, take, drop, Bor, Bool, true, false, Option, Some, append_assoc, arith, length-append, slice_index_or}
 use Rattle.std.proofs.lemmas.List.{take_all}
 use Rattle.san_report.specs.Lines.{joined}
 use Rattle.san_base.specs.Flow.{CountRose}
@@ -50,3 +50,33 @@ text_is a b f g xs none p =
     let whole : Some b ≡ Some (a ++ xs) = p.bytes_put in
     let same : b ≡ a ++ xs = cc in
     same ∙ ap (λ (z : List ℕ). z ++ xs) none
+
+-- a piece, and then the others, from the front of the rest
+joined_suc : (ps : List (Bor (List ℕ))) (k : ℕ) (d : Bor (List ℕ)) → k < length ps → joined (drop k (map (λ (p : Bor (List ℕ)). p.now) ps)) ≡ (slice_index_or ps k d).now ++ joined (drop (suc k) (map (λ (p : Bor (List ℕ)). p.now) ps))
+joined_suc [] k d h = absurd (omega (arith, h))
+joined_suc (p ∷ ps) zero d h = refl
+joined_suc (p ∷ ps) (suc k) d h = joined_suc ps k d (omega (arith, h))
+
+pub joined_next : (ps : List (Bor (List ℕ))) (k : ℕ) (d : Bor (List ℕ)) → k < length ps → joined (drop k (map (λ (p : Bor (List ℕ)). p.now) ps)) ≡ (slice_index_or ps k d).now ++ joined (drop (k + 1) (map (λ (p : Bor (List ℕ)). p.now) ps))
+joined_next ps k d h =
+    let next : suc k ≡ k + 1 = omega arith in
+    joined_suc ps k d h ∙ ap (λ (n : ℕ). (slice_index_or ps k d).now ++ joined (drop n (map (λ (p : Bor (List ℕ)). p.now) ps))) next
+
+pub joined_none : (ps : List (Bor (List ℕ))) (k : ℕ) → length ps ≤ k → joined (drop k (map (λ (p : Bor (List ℕ)). p.now) ps)) ≡ []
+joined_none [] zero h = refl
+joined_none [] (suc k) h = refl
+joined_none (p ∷ ps) zero h = absurd (omega (arith, h))
+joined_none (p ∷ ps) (suc k) h = joined_none ps k (omega (arith, h))
+
+-- how long the rest is
+pub next_long : (ps : List (Bor (List ℕ))) (k : ℕ) (d : Bor (List ℕ)) → k < length ps
+    → length (joined (drop k (map (λ (p : Bor (List ℕ)). p.now) ps))) ≡ length (slice_index_or ps k d).now + length (joined (drop (k + 1) (map (λ (p : Bor (List ℕ)). p.now) ps)))
+next_long ps k d h = ap length (joined_next ps k d h) ∙ length-append (slice_index_or ps k d).now (joined (drop (k + 1) (map (λ (p : Bor (List ℕ)). p.now) ps)))
+
+-- one piece more is on a page
+pub put_next : (ps : List (Bor (List ℕ))) (k : ℕ) (d : Bor (List ℕ)) (held new whole : List ℕ) → k < length ps → new ≡ held ++ (slice_index_or ps k d).now
+    → held ++ joined (drop k (map (λ (p : Bor (List ℕ)). p.now) ps)) ≡ whole → new ++ joined (drop (k + 1) (map (λ (p : Bor (List ℕ)). p.now) ps)) ≡ whole
+put_next ps k d held new whole h is so =
+    ap (λ (xs : List ℕ). xs ++ joined (drop (k + 1) (map (λ (p : Bor (List ℕ)). p.now) ps))) is
+    ∙ append_assoc held (slice_index_or ps k d).now (joined (drop (k + 1) (map (λ (p : Bor (List ℕ)). p.now) ps)))
+    ∙ ap (λ (xs : List ℕ). held ++ xs) (sym (joined_next ps k d h)) ∙ so

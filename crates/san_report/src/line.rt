@@ -1,17 +1,44 @@
 //! The lines of completions and of the ending.
 
-ghost use Rattle.std.specs.Prelude.{◌≡◌, ◌<◌, IfOk};
+ghost use Rattle.std.specs.Prelude.{◌≡◌, ◌<◌, ◌∷◌, ◌++◌, [], IfOk, MatchBool, codes, map};
 ghost use Rattle.san_net.specs.Laid.{acts_of};
-ghost use Rattle.san_report.specs.Lines.{ending_line, event_line, stop_line, timed_line, trap_word};
+ghost use Rattle.san_report.specs.Lines.{act_name, ending_line, event_line, leaf_of, leaf_path, stop_line, timed_line, trap_word};
 ghost use Rattle.san_report.specs.Puts.{EndsIn, StopsIn, Wrote};
 
 use crate::path::{act_name, leaf_path};
-use crate::pieces::put_pieces;
+use crate::pieces::{append_pieces, put_pieces};
 use crate::vec_sink::VecSink;
 use itoa::Buffer;
-use san_base::{Ending, Event, NoMemory, Sink, Stop, Tick, Trap};
+use san_base::{ActId, Ending, Event, NoMemory, Sink, Stop, SureSink, Tick, Trap};
 use san_net::Flat;
 use std::alloc::Global;
+
+/// The pieces of a completion's line, whose numbers are given in digits.
+fn event_pieces<'a>(
+    number: &'a [u8],
+    time: &'a [u8],
+    case: &'a [u8],
+    flat: &'a Flat,
+    act: ActId,
+) -> [&'a [u8]; 10]
+    requires { act.0 < acts_of flat.now.parts }
+    ensures { map (λ p. p.now) result ≡ number.now ∷ codes " " ∷ time.now ∷ codes " "
+        ∷ leaf_path flat.now (leaf_of flat.now act.0) ∷ codes "." ∷ act_name flat.now act.0
+        ∷ codes " " ∷ case.now ∷ codes "\n" ∷ [] }
+{
+    [
+        number,
+        b" ",
+        time,
+        b" ",
+        leaf_path(flat, act),
+        b".",
+        act_name(flat, act),
+        b" ",
+        case,
+        b"\n",
+    ]
+}
 
 /// Writes the line of a completion, whose number in the run, from 0, is `n`.
 #[tactic(auto, unfolding(crate::specs::Lines::event_line))]
@@ -21,21 +48,28 @@ pub fn put_event<K: Sink>(sink: &mut K, flat: &Flat, n: u64, event: Event) -> bo
         (K.faults sink.new) (event_line flat.now n event) }
 {
     let (mut number, mut time, mut case) = (Buffer::new(), Buffer::new(), Buffer::new());
-    put_pieces(
-        sink,
-        &[
-            number.format(n).as_bytes(),
-            b" ",
-            time.format(event.time.0).as_bytes(),
-            b" ",
-            leaf_path(flat, event.act),
-            b".",
-            act_name(flat, event.act),
-            b" ",
-            case.format(event.case).as_bytes(),
-            b"\n",
-        ],
-    )
+    let (number, time, case) = (
+        number.format(n).as_bytes(),
+        time.format(event.time.0).as_bytes(),
+        case.format(event.case).as_bytes(),
+    );
+    put_pieces(sink, &event_pieces(number, time, case, flat, event.act))
+}
+
+/// Writes the line of a completion onto a page, where there is room for it; else nothing.
+#[tactic(auto, unfolding(crate::specs::Lines::event_line))]
+pub(crate) fn append_event(page: &mut SureSink, flat: &Flat, n: u64, event: Event) -> bool
+    requires { event.act.0 < acts_of flat.now.parts }
+    ensures { MatchBool result (page.new.held ≡ page.old.held ++ event_line flat.now n event)
+        (page.new ≡ page.old) }
+{
+    let (mut number, mut time, mut case) = (Buffer::new(), Buffer::new(), Buffer::new());
+    let (number, time, case) = (
+        number.format(n).as_bytes(),
+        time.format(event.time.0).as_bytes(),
+        case.format(event.case).as_bytes(),
+    );
+    append_pieces(page, &event_pieces(number, time, case, flat, event.act))
 }
 
 /// The line of a completion, whose number in the run, from 0, is `n`.

@@ -5,7 +5,7 @@ ghost use Rattle.san_base.specs.Flow.{AppendsPrefix, CountRose};
 ghost use Rattle.san_report.specs.Puts.{Wrote};
 ghost use Rattle.san_report.specs.Pages.{IsIn, Sent, line_of};
 
-use crate::line::{put_ending, put_event};
+use crate::line::{append_event, put_ending, put_event};
 use crate::worth::put_reward;
 use san_base::{Ending, Event, NoMemory, Sink, SureSink, put_all};
 use san_net::{Flat, Reward};
@@ -33,6 +33,18 @@ fn put_line<K: Sink>(sink: &mut K, flat: &Flat, line: Line<'_>) -> bool
         Line::Event(n, event) => put_event(sink, flat, n, event),
         Line::Ending(n, ending) => put_ending(sink, flat, n, ending),
         Line::Reward(reward, worth) => put_reward(sink, reward, worth),
+    }
+}
+
+/// Writes the line of a completion straight onto a page, where there is room for it; else nothing.
+fn append_line(page: &mut SureSink, flat: &Flat, line: Line<'_>) -> bool
+    requires { IsIn flat.now line }
+    ensures { MatchBool result (page.new.held ≡ page.old.held ++ line_of flat.now line.entry)
+        (page.new ≡ page.old) }
+{
+    match line {
+        Line::Event(n, event) => append_event(page, flat, n, event),
+        Line::Ending(_, _) | Line::Reward(_, _) => false,
     }
 }
 
@@ -143,6 +155,9 @@ impl Pages {
         ensures cause { MatchBool result (Unit {0}) (CountRose (K.faults sink.old) (K.faults sink.new)) }
         ensures later { K.faults sink.old ≤ K.faults sink.new }
     {
+        if append_line(&mut self.page, flat, line) {
+            return true;
+        }
         self.line.clear();
         if put_line(&mut self.line, flat, line) {
             keep(&mut self.page, sink, self.line.bytes())
