@@ -8,7 +8,8 @@ use Rattle.san_law.specs.State.{State}
 use Rattle.san_law.specs.Step as law
 use Rattle.san_net.specs.Network.{Network}
 use Rattle.san_net.specs.Tables.{act_of}
-use Rattle.san_seq.specs.Outcomes.{ending_in, event_or_ending}
+use Rattle.san_net.specs.Runs.{ending_in}
+use Rattle.san_seq.specs.Outcomes.{event_or_ending}
 
 -- an event without its impulses
 pub record Happening : Type 0 where

@@ -1,9 +1,7 @@
--- The least timer: of a row from the last activity to the first, of all leaves by a tree over their keys.
-use Rattle.std.proofs.Common.{ℕ, zero, suc, ◌<◌, ◌≡◌, ◌≢◌, ◌⊎◌, inl, inr, ◌∙◌, ap, sym, refl, arith, Bool, true, false, nat_lt, cond, List, [], ◌∷◌, length, map, drop, replicate, Option, Some, None, slice_index_or, slice_set}
+-- The least timer of all leaves, by a tree over their keys.
+use Rattle.std.proofs.Common.{ℕ, zero, suc, ◌<◌, ◌≡◌, ◌≢◌, ◌⊎◌, inl, inr, ◌∙◌, ap, sym, refl, arith, Bool, true, false, nat_lt, cond, List, [], ◌∷◌, length, map, replicate, Option, Some, None, slice_index_or, slice_set}
 use Rattle.std.specs.Option.{option_map}
 use Rattle.std.proofs.lemmas.List.{get_or-set_other, get_or-set_same, length-map, length-set, map-set, set-get_or, set-set}
-use Rattle.san_clock.specs.Rows.{timer_in}
-use Rattle.san_clock.specs.declared.row.Timer.{Timer}
 use Rattle.san_law.specs.Net.{Row, least_timer, least_timer_from, no_row, without_timer}
 use Rattle.san_law.specs.Renewal as law
 use Rattle.san_law.specs.State.{blank_row, repeated}
@@ -17,13 +15,6 @@ use Rattle.san_seq.specs.inner.Rows.{row_at}
 use Rattle.san_seq.proofs.RangeLemmas.{due_is, due_within}
 use Rattle.san_seq.proofs.RowLemmas.{any_row}
 use Rattle.san_seq.proofs.StateLemmas.{put_same}
-
--- before the first activity the least is that of the row
-pub least_is : (row : Row) (timers : List (Option Timer)) (least : Option (ℕ × ℕ)) (k : ℕ) → k ≡ 0 → map (option_map timer_in) timers ≡ row.timers
-    → least ≡ least_timer_from k (map (option_map timer_in) (drop k timers)) → least ≡ least_timer row
-unfolding least_timer
-least_is row timers least k none same is =
-    is ∙ ap (λ (i : ℕ). least_timer_from i (map (option_map timer_in) (drop i timers))) none ∙ ap (least_timer_from 0) same
 
 -- a timer's time and leaf, as the tree tells them
 abbrev pub won_by : law.Due → ℕ × ℕ

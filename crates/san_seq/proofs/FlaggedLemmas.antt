@@ -14,7 +14,7 @@ up_or_down (true ∷ fs) zero h = inl refl
 up_or_down (false ∷ fs) zero h = inr refl
 up_or_down (f ∷ fs) (suc j) h = up_or_down fs j (omega (arith, h))
 
-not_both : (o : Option Bool) → o ≡ Some true → o ≡ Some false → {A : Type 0} → A
+pub not_both : (o : Option Bool) → o ≡ Some true → o ≡ Some false → {A : Type 0} → A
 not_both o a b = cc
 
 -- items of a list that is set

@@ -1,6 +1,6 @@
 -- What has no flag up stays idle through a step.
 use Rattle.std.proofs.Common.{replicate, ℕ, zero, suc, ◌+◌, ◌<◌, ◌≡◌, ◌≢◌, ◌∙◌, ◌⊎◌, inl, inr, ap, sym, refl, subst, arith, List, [], ◌∷◌, length, Option, Some, None, Result, Ok, Err, IfOk, Bool, true, false, slice_index, slice_set, nat_eq}
-use Rattle.std.specs.Prelude.{slice_get, IsTrue}
+use Rattle.std.specs.Prelude.{slice_get}
 use Rattle.std.proofs.lemmas.Bool.{eqb-true}
 use Rattle.std.proofs.lemmas.List.{get_or-set_other}
 use Rattle.std.proofs.lemmas.Option.{slice_get_within}
@@ -21,10 +21,11 @@ use Rattle.san_net.specs.Network.{Network, net_of}
 use Rattle.san_net.specs.declared.part.Part.{Part}
 use Rattle.san_law.specs.Clocks.{renewed_row, some_pair}
 use Rattle.san_seq.specs.declared.stale.Stale.{Stale}
-use Rattle.san_seq.specs.inner.Known.{AreFresh, AreIdle, AreQuiet, AreSettled, AreTouched, HasFlags, HaveSame, IsAtRest}
+use Rattle.san_seq.specs.declared.concern.Concern.TheVariants as concern
+use Rattle.san_seq.specs.inner.Known.{AreFresh, AreIdle, AreQuiet, AreSettled, AreTouched, HasFlags, HaveSame, IsAtRest, SeesSame}
 use Rattle.san_seq.specs.inner.Nexts.{first_by, first_from, first_of_part, next_among}
 use Rattle.san_seq.specs.inner.States.{instant_in}
-use Rattle.san_seq.specs.inner.Wakes.{AreWoken, Woken, concerned}
+use Rattle.san_seq.specs.inner.Wakes.{AreWoken, EachWeight, Stands, Woken, bands_at, level}
 use Rattle.san_seq.specs.Outcomes.{event_or_ending}
 use Rattle.san_seq.specs.inner.Renewals.{renewed_part}
 use Rattle.san_seq.specs.inner.Rows.{row_at}
@@ -36,6 +37,7 @@ use Rattle.san_seq.proofs.NextLemmas.{cut}
 use Rattle.san_net.proofs.CellLemmas.{gather_eq}
 use Rattle.san_net.proofs.PartLemmas.{lies_over, part_is, places_are}
 use Rattle.san_seq.proofs.RowLemmas.{part_renewed}
+use Rattle.san_seq.proofs.WeightLemmas.{each_always, each_both}
 
 not_false : (o : Option Bool) → o ≡ Some true → o ≡ Some false → {A : Type 0} → A
 not_false o a b = cc
@@ -61,7 +63,7 @@ are_fresh n draw bounds w stale s ok known j p down is = by_pair (some_pair (lea
 
     by_pair : (b : Bool) → some_pair (leaf_of p).activities ≡ b → renewed_part draw p s.time s.stable s.marking (row_at s.rows j) ≡ Fresh (row_at s.rows j)
     by_pair true e =
-        ap (λ (seen : List ℕ). renewed_row draw (leaf_of p) s.time seen local) (gather_eq (places_of p) s.stable s.marking (λ k q at. rest.same k q at (pair_all p.atomic.impulses 0 p.atomic.acts k e))) ∙ here
+        ap (λ (seen : List ℕ). renewed_row draw (leaf_of p) s.time seen local) (gather_eq (places_of p) s.stable s.marking (λ k q at. pair_all p.atomic.impulses 0 p.atomic.acts k (SeesSame s.stable s.marking q) e (rest.same k q at))) ∙ here
     by_pair false e = unseen n draw bounds ok j p is e s.time (gather (places_of p) s.stable) (gather (places_of p) s.marking) local ∙ here
 
 -- where nothing comes next, no leaf has anything
@@ -200,28 +202,28 @@ module _ (n : Network) (draw : ℕ → ℕ → ℕ) (bounds : Bounds) (w : Woken
   marking_is : v.marking ≡ scatter (places_of part) moved.values u.marking
   marking_is = moved.marking ∙ ap (λ (ss : List ℕ). scatter ss moved.values u.marking) (places_are n j part is draw bounds)
 
-  -- a place that was the same is so still, unless it is one of the leaf's
-  still_same : (q : ℕ) → q < length u.marking → slice_index u.stable q ≡ slice_index u.marking q → ((l : ℕ) → slice_get (places_of part) l ≡ Some q → slice_index v.stable q ≡ slice_index v.marking q) → slice_index v.stable q ≡ slice_index v.marking q
-  still_same q h was own = by_case (same_or_own (places_of part) moved.values u.marking q h)
+  -- a weight that saw the same of a place does so still, unless it is one of the leaf's
+  still_same : (q weight : ℕ) → q < length u.marking → SeesSame u.stable u.marking q weight → ((l : ℕ) → slice_get (places_of part) l ≡ Some q → SeesSame v.stable v.marking q weight) → SeesSame v.stable v.marking q weight
+  still_same q weight h was own = by_case (same_or_own (places_of part) moved.values u.marking q h)
     where
-      by_case : (slice_index (scatter (places_of part) moved.values u.marking) q ≡ slice_index u.marking q) ⊎ ((l : ℕ) × (slice_get (places_of part) l ≡ Some q)) → slice_index v.stable q ≡ slice_index v.marking q
-      by_case (inl f) = ap (λ (xs : List ℕ). slice_index xs q) moved.stable ∙ was ∙ sym f ∙ sym (ap (λ (xs : List ℕ). slice_index xs q) marking_is)
+      by_case : (slice_index (scatter (places_of part) moved.values u.marking) q ≡ slice_index u.marking q) ⊎ ((l : ℕ) × (slice_get (places_of part) l ≡ Some q)) → SeesSame v.stable v.marking q weight
+      by_case (inl f) = ap (λ (xs : List ℕ). level weight (slice_index xs q)) moved.stable ∙ was ∙ ap (level weight) (sym f) ∙ sym (ap (λ (xs : List ℕ). level weight (slice_index xs q)) marking_is)
       by_case (inr f) = own f.0 f.1
 
   -- what was the same before and after was so in between
-  stays : (q : ℕ) → slice_index u.stable q ≡ slice_index u.marking q → slice_index v.stable q ≡ slice_index v.marking q → slice_index u.marking q ≡ slice_index v.marking q
-  stays q a b = sym a ∙ ap (λ (xs : List ℕ). slice_index xs q) (sym moved.stable) ∙ b
+  stays : (q weight : ℕ) → SeesSame u.stable u.marking q weight → SeesSame v.stable v.marking q weight → SeesSame u.marking v.marking q weight
+  stays q weight a b = sym a ∙ ap (λ (xs : List ℕ). level weight (slice_index xs q)) (sym moved.stable) ∙ b
 
   places_after : HaveSame old.places u.stable u.marking → HaveSame new.places v.stable v.marking
   places_after known q down =
       let h : q < length u.marking = omega (arith, slice_get_within new.places q false down, touched.places.sized, flags.places, long) in
-      still_same q h (known q (touched.places.kept q down)) (λ l f. touched.places.equal l q q f down refl)
+      still_same q 0 h (known q (touched.places.kept q down)) (λ l f. touched.places.equal l q q 0 f down (refl, refl))
 
   timers_after : slice_get new.timers j ≡ Some true → ((i : ℕ) (p : Part) → i ≢ j → slice_get n.parts i ≡ Some p → slice_get old.timers i ≡ Some false → IsAtRest p u.stable u.marking (row_at u.rows i))
       → (i : ℕ) (p : Part) → slice_get n.parts i ≡ Some p → slice_get new.timers i ≡ Some false → IsAtRest p v.stable v.marking (row_at v.rows i)
   timers_after own known i p at down = subst (IsAtRest p v.stable v.marking) (sym row) (record {
-    steady = rest_alike p u.marking v.marking (row_at u.rows i) (λ c q e t. stays q (was.same c q e t) (same c q e t)) was.steady;
-    same = same;
+    steady = rest_alike p u.marking v.marking (row_at u.rows i) (λ c q e. both c q e (SeesSame u.marking v.marking q) (λ weight a s. stays q weight a (after c q e weight a s))) was.steady;
+    same = λ c q e. both c q e (SeesSame v.stable v.marking q) (after c q e);
   })
     where
       other : i ≢ j
@@ -230,8 +232,11 @@ module _ (n : Network) (draw : ℕ → ℕ → ℕ) (bounds : Bounds) (w : Woken
       was : IsAtRest p u.stable u.marking (row_at u.rows i)
       was = known i p other at (touched.timers.kept i down)
 
-      same : (c q : ℕ) → slice_get (places_of p) c ≡ Some q → IsTrue (concerned Rattle.san_seq.specs.declared.concern.Concern.TheVariants.Timers p.atomic.acts c) → slice_index v.stable q ≡ slice_index v.marking q
-      same c q e t = still_same q (within i p c q at e) (was.same c q e t) (λ l f. touched.timers.equal l i q f down (woken.timers.there i c q p (slice_get_within n.parts i p at) at e t))
+      after : (c q : ℕ) → slice_get (places_of p) c ≡ Some q → (weight : ℕ) → SeesSame u.stable u.marking q weight → Stands (bands_at w.timers q) weight i → SeesSame v.stable v.marking q weight
+      after c q e weight a s = still_same q weight (within i p c q at e) a (λ l f. touched.timers.equal l i q weight f down s)
+
+      both : (c q : ℕ) → slice_get (places_of p) c ≡ Some q → (P : ℕ → Type 0) → ((weight : ℕ) → SeesSame u.stable u.marking q weight → Stands (bands_at w.timers q) weight i → P weight) → EachWeight concern.Timers p.atomic.acts c P
+      both c q e P f = each_both c (SeesSame u.stable u.marking q) (λ weight. Stands (bands_at w.timers q) weight i) P f concern.Timers p.atomic.acts (was.same c q e) (woken.timers.there i c q p (slice_get_within n.parts i p at) at e)
 
       row : row_at v.rows i ≡ row_at u.rows i
       row = ap (λ (rs : List Row). row_at rs i) moved.rows ∙ get_or-set_other u.rows j i moved.row no_row other
@@ -310,7 +315,7 @@ module _ (n : Network) (draw : ℕ → ℕ → ℕ) (bounds : Bounds) (w : Woken
       (λ e i p at. (quiet i p at).0)
       (λ i p other at down.
       let row : row_at (slice_set s.rows d.leaf (without_timer (row_at s.rows d.leaf) d.act)) i ≡ row_at s.rows i = get_or-set_other s.rows d.leaf i (without_timer (row_at s.rows d.leaf) d.act) no_row (λ e. other (e ∙ leaf)) in
-      subst (IsAtRest p s.marking s.marking) (sym row) (record { steady = (quiet i p at).1; same = λ c q e f. refl }))
+      subst (IsAtRest p s.marking s.marking) (sym row) (record { steady = (quiet i p at).1; same = λ c q e. each_always c (SeesSame s.marking s.marking q) (λ weight. refl) concern.Timers p.atomic.acts }))
 
   pub instant_known : (s u : State) (t : Happening) → length s.marking ≡ length n.initial → u ≡ s → AreIdle n w old s
       → v ≡ (instant_in n draw bounds u j k).1 → happening_by (instant_in n draw bounds u j k).0 ≡ Ok t → AreIdle n w new v

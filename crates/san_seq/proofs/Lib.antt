@@ -1,5 +1,6 @@
 pub mod AlikeLemmas
 pub mod AnswerLemmas
+pub mod BandLemmas
 pub mod CompletionLemmas
 pub mod DueLemmas
 pub mod FlaggedLemmas
@@ -22,5 +23,5 @@ pub mod StateLemmas
 pub mod SteppingLemmas
 pub mod TouchLemmas
 pub mod ViewLemmas
-pub mod WakeLemmas
+pub mod WeightLemmas
 pub mod WithinLemmas

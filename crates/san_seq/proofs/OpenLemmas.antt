@@ -13,7 +13,7 @@ use Rattle.san_net.specs.declared.part.Part.{Part}
 use Rattle.san_draw.specs.Key.{draw_of}
 use Rattle.san_seq.specs.FlatRun.{On, Run, opening}
 use Rattle.san_seq.specs.inner.Openings.{rows_of}
-use Rattle.san_seq.specs.Overs.{limits_in}
+use Rattle.san_net.specs.Runs.{limits_in}
 use Rattle.san_seq.specs.inner.Rows.{IsRowOf, row_at}
 use Rattle.san_seq.specs.inner.Running.{IsRunning}
 use Rattle.san_net.proofs.PartLemmas.{part_is}

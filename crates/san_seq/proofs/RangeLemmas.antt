@@ -1,7 +1,7 @@
 -- An activity that is found is one of its leaf's.
 use Rattle.std.proofs.Common.{ℕ, zero, suc, ◌+◌, ◌≤◌, ◌<◌, ◌≡◌, ◌∙◌, ◌⊎◌, inl, inr, ap, refl, subst, arith, List, [], ◌∷◌, length, map, Option, Some, None, Bool, true, false, nat_lt, cond}
 use Rattle.san_law.specs.Activity.{ActKind, Activity, Answer, Instant, No, Part, Timed, Traps, Yes, activity_of, first_in, found_by, instants_from, placed, placed_by}
-use Rattle.san_law.specs.Net.{Broken, Enabled, Found, Net, Nothing, Row, Timer, least_timer, least_timer_from, sooner_act}
+use Rattle.san_law.specs.Net.{Broken, Enabled, Found, Net, Nothing, Row, least_timer}
 use Rattle.san_law.specs.Next.{Completes, Next, Stable, TrapsAt, found_at, last_first, next_instant, scan, next_of}
 use Rattle.san_law.specs.Renewal.{Due, least_from, sooner}
 use Rattle.san_law.specs.State.{State, gather, slots_of}
@@ -15,6 +15,7 @@ use Rattle.san_net.specs.Network.{Network, net_of, network_in}
 use Rattle.san_net.specs.declared.atomic.ImpulseTerm.{ImpulseTerm}
 use Rattle.san_seq.specs.inner.Rows.{AreRows, row_at}
 use Rattle.san_net.specs.Tables.{IsActOf}
+use Rattle.san_clock.proofs.DueLemmas.{least_within}
 use Rattle.san_seq.proofs.NextLemmas.{cut}
 use Rattle.san_net.proofs.PartLemmas.{part_is}
 use Rattle.san_net.proofs.FlatLemmas.{acts_within}
@@ -108,28 +109,6 @@ module _ (net : Net) (s : State) (j k : ℕ) (first : (i : ℕ) (v : List ℕ) (
   next_within there is = by_last s.last there is
 
 -- the earlier of two is one of them
-sooner_is : (d : ℕ × ℕ) (rest : Option (ℕ × ℕ)) (x : ℕ × ℕ) → sooner_act d rest ≡ Some x → (d ≡ x) ⊎ (rest ≡ Some x)
-sooner_is d None x is = inl (same_pair d x is)
-sooner_is d (Some e) x is = by_test (nat_lt e.0 d.0) is
-  where
-    by_test : (b : Bool) → (let o : Option (ℕ × ℕ) = cond b (Some e) (Some d) in o) ≡ Some x → (d ≡ x) ⊎ ((let o : Option (ℕ × ℕ) = Some e in o) ≡ Some x)
-    by_test true r = inr r
-    by_test false r = inl (same_pair d x r)
-
-timer_within : (k : ℕ) (ts : List (Option Timer)) (x : ℕ × ℕ) → least_timer_from k ts ≡ Some x → x.1 < k + length ts
-timer_within k [] x is = absurd cc
-timer_within k (None ∷ ts) x is = omega (arith, timer_within (suc k) ts x is)
-timer_within k (Some t ∷ ts) x is = by_case (timer_within (suc k) ts x) (sooner_is (t.due, k) (least_timer_from (suc k) ts) x is)
-  where
-    by_case : (least_timer_from (suc k) ts ≡ Some x → x.1 < suc k + length ts) → ((t.due, k) ≡ x) ⊎ (least_timer_from (suc k) ts ≡ Some x) → x.1 < k + suc (length ts)
-    by_case rest (inl e) = let same : k ≡ x.1 = ap (λ (y : ℕ × ℕ). y.1) e in omega (arith, same)
-    by_case rest (inr r) = omega (arith, rest r)
-
--- a row's least timer is of one of its activities
-least_within : (r : Row) (x : ℕ × ℕ) → least_timer r ≡ Some x → x.1 < length r.timers
-unfolding least_timer
-least_within r x is = omega (arith, timer_within 0 r.timers x is)
-
 sooner_due : (d : Due) (rest : Option Due) (x : Due) → sooner d rest ≡ Some x → (d ≡ x) ⊎ (rest ≡ Some x)
 sooner_due d None x is = inl (same_due d x is)
 sooner_due d (Some e) x is = by_test (nat_lt e.time d.time) is

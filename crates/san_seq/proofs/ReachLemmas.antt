@@ -24,7 +24,8 @@ use Rattle.san_net.proofs.LaidLemmas.{laid, lawful}
 use Rattle.san_seq.specs.FlatRun.{RunPhase, On, Run, left_by, net_in, stepped}
 use Rattle.san_seq.specs.Reaching.{EventsAreInTime, EventsAreTheLaws, IsInTime, impulses_at}
 use Rattle.san_seq.specs.inner.Rows.{row_at}
-use Rattle.san_seq.specs.Outcomes.{event_in, event_or_ending}
+use Rattle.san_net.specs.Runs.{event_in}
+use Rattle.san_seq.specs.Outcomes.{event_or_ending}
 
 -- a step's event is the law's
 laws_by : (n : Network) (net : Net) (s : State) (e : Event) (x : Stepped) → (step net s).0 ≡ x → event_or_ending n x ≡ Ok e

@@ -11,7 +11,8 @@ use Rattle.san_law.specs.Step as law
 use Rattle.san_law.specs.Trajectory as whole
 use Rattle.san_net.specs.Network.{Network}
 use Rattle.san_seq.specs.FlatRun.{Done, RunPhase, HasRest, On, Run, TellsPrefix, after_step, ahead, left_by, net_in, rest_by, rest_of, step_of, stepped, steps_at, steps_left}
-use Rattle.san_seq.specs.Outcomes.{ending_in, event_in, event_or_ending, trajectory_in}
+use Rattle.san_net.specs.Runs.{ending_in, event_in}
+use Rattle.san_seq.specs.Outcomes.{event_or_ending, trajectory_in}
 use Rattle.san_seq.specs.declared.steps.Trajectory.{Trajectory}
 
 same_event : (a b : Event) → (let r : Result Event Ending = Ok a in r) ≡ Ok b → a ≡ b

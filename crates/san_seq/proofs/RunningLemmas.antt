@@ -14,7 +14,7 @@ use Rattle.san_law.specs.Step as law
 use Rattle.san_law.specs.Network.{part_at}
 use Rattle.san_net.specs.Network.{Network, net_of, network_in}
 use Rattle.san_net.specs.declared.part.Part as net
-use Rattle.san_seq.specs.Overs.{limits_in}
+use Rattle.san_net.specs.Runs.{limits_in}
 use Rattle.san_seq.specs.inner.Rows.{AreDrawn, AreRows, IsLike, row_at}
 use Rattle.san_seq.specs.inner.Running.{AreCounted, IsDrawn, IsRunning, with_rows}
 use Rattle.san_seq.proofs.AnswerLemmas.{Happening, happening_by}

@@ -1,7 +1,7 @@
 -- The parts of a step are the law's, and leave a state of a run.
 use Rattle.san_base.proofs.NumberTests.{number_within}
-use Rattle.std.proofs.Common.{ℕ, ◌+◌, ◌≤◌, ◌<◌, ◌≡◌, ◌∙◌, ap, sym, refl, subst, arith, length, Option, Some, None, Result, Ok, Err, IfOk, Bool, true, false, nat_le, nat_lt, cond}
-use Rattle.std.proofs.lemmas.Bool.{leb-false, ltb-true}
+use Rattle.std.proofs.Common.{ℕ, ◌+◌, ◌≤◌, ◌<◌, ◌≡◌, ◌∙◌, ap, sym, refl, subst, arith, length, Option, Some, None, Result, Ok, Err, IfOk, Bool, true, false, nat_lt, cond}
+use Rattle.std.proofs.lemmas.Bool.{ltb-true}
 use Rattle.san_base.specs.declared.ending.Ending.{Ending}
 use Rattle.san_base.specs.declared.ending.Event.{Event}
 use Rattle.san_base.specs.declared.limits.Limits.{Limits}
@@ -12,10 +12,10 @@ use Rattle.san_law.specs.State.{State, local_of}
 use Rattle.san_law.specs.Next.{Next, next_instant}
 use Rattle.san_law.specs.Step as law
 use Rattle.san_net.specs.Network.{Network, net_of}
-use Rattle.san_seq.specs.Overs.{limits_in}
+use Rattle.san_net.specs.Runs.{ending_in, limits_in}
 use Rattle.san_seq.specs.inner.States.{instant_in}
 use Rattle.san_seq.specs.inner.Running.{IsDrawn, IsRunning, Steps, with_rows}
-use Rattle.san_seq.specs.Outcomes.{ending_in, event_or_ending}
+use Rattle.san_seq.specs.Outcomes.{event_or_ending}
 use Rattle.san_seq.proofs.AnswerLemmas.{Happening, happened, happening_by}
 use Rattle.san_seq.proofs.RunningLemmas.{by_done}
 

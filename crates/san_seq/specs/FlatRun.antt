@@ -12,8 +12,8 @@ use Rattle.san_law.specs.State.{State, opening_state}
 use Rattle.san_law.specs.Step as law
 use Rattle.san_law.specs.Trajectory as whole
 use Rattle.san_net.specs.Network.{Network, net_of}
-use Rattle.san_seq.specs.Overs.{limits_in}
-use Rattle.san_seq.specs.Outcomes.{ending_in, event_or_ending, trajectory_in}
+use Rattle.san_net.specs.Runs.{ending_in, limits_in}
+use Rattle.san_seq.specs.Outcomes.{event_or_ending, trajectory_in}
 use Rattle.san_seq.specs.declared.seq.Phase.{Phase}
 use Rattle.san_seq.specs.declared.seq.Phase.TheVariants as phase
 use Rattle.san_seq.specs.declared.steps.Stable.{Stable}

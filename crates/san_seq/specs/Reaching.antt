@@ -10,7 +10,7 @@ use Rattle.san_law.specs.Trajectory.{Runs}
 use Rattle.san_net.specs.Laid.{IsNetwork}
 use Rattle.san_net.specs.Network.{Network, net_of, network_in}
 use Rattle.san_seq.specs.FlatRun.{On, Run, after_step, net_in, step_of}
-use Rattle.san_seq.specs.Outcomes.{event_in}
+use Rattle.san_net.specs.Runs.{event_in}
 
 -- an event that a step tells is the law's, and leaves the law's state
 pub record IsTheLaws (r : Run) (s : State) (e : Event) : Type 0 where

@@ -1,12 +1,10 @@
-//! The cells on which a leaf's activities hang.
+//! By which weights a leaf's activities look at its cells.
 
 ghost use Rattle.std.specs.Prelude.{◌≡◌};
-ghost use Rattle.san_net.specs.Mentions.{enabling_mentions, predicate_mentions};
-ghost use Rattle.san_seq.specs.inner.Wakes.{act_cells, concerned, instant_cells, timer_cells};
+ghost use Rattle.san_seq.specs.inner.Wakes.{weight_at};
 
-use san_base::Name;
 use san_expr::mentions;
-use san_net::{ActKind, Activity, Input};
+use san_net::Input;
 
 /// What of a leaf a change may concern.
 #[derive(Clone, Copy, Debug, PartialEq, Eq)]
@@ -17,67 +15,12 @@ pub(crate) enum Concern {
     Timers,
 }
 
-/// Whether a predicate names a cell.
-fn predicate_names(input: &Input, cell: u32) -> bool
-    ensures { result ≡ predicate_mentions input.now cell }
+/// By which weight a predicate looks at a cell, if it does: an arc by its own, a gate by 0.
+pub(crate) fn weight_at(input: &Input, cell: u32) -> Option<u32>
+    ensures { result ≡ weight_at input.now cell }
 {
     match input {
-        Input::Arc(place, _) => *place == cell,
-        Input::Gate(e, _) => mentions(e, cell),
+        Input::Arc(place, weight) => (*place == cell).then_some(*weight),
+        Input::Gate(e, _) => mentions(e, cell).then_some(0),
     }
-}
-
-/// Whether one of an activity's predicates does.
-fn predicates_name(activity: &Activity, cell: u32) -> bool
-    ensures { result ≡ enabling_mentions activity.now cell }
-{
-    let inputs = activity.inputs.as_slice();
-    for input in inputs {
-        if predicate_names(input, cell) {
-            return true;
-        }
-    }
-    false
-}
-
-/// Whether an activity hangs on a cell, if it is an instantaneous one.
-fn instant_hangs(activity: &Activity, cell: u32) -> bool
-    ensures { result ≡ instant_cells activity.now.kind activity.now cell }
-{
-    match &activity.kind {
-        ActKind::Timed { .. } => false,
-        ActKind::Instant { .. } => predicates_name(activity, cell),
-    }
-}
-
-/// Whether an activity's timer does. With a pair it hangs on each cell of its leaf.
-fn timer_hangs(activity: &Activity, cell: u32) -> bool
-    ensures { result ≡ timer_cells activity.now.kind activity.now cell }
-{
-    match &activity.kind {
-        ActKind::Timed { pair: None, .. } => predicates_name(activity, cell),
-        ActKind::Timed { pair: Some(_), .. } => true,
-        ActKind::Instant { .. } => false,
-    }
-}
-
-fn hangs(concern: Concern, activity: &Activity, cell: u32) -> bool
-    ensures { result ≡ act_cells concern activity.now cell }
-{
-    match concern {
-        Concern::Instants => instant_hangs(activity, cell),
-        Concern::Timers => timer_hangs(activity, cell),
-    }
-}
-
-/// Whether a change of a cell concerns a leaf with these activities.
-pub(crate) fn concerns(concern: Concern, acts: &[(Name, Activity)], cell: u32) -> bool
-    ensures { result ≡ concerned concern acts.now cell }
-{
-    for act in acts {
-        if hangs(concern, &act.1, cell) {
-            return true;
-        }
-    }
-    false
 }

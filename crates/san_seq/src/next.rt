@@ -9,15 +9,15 @@ ghost use Rattle.san_net.specs.Accepted.{IsAccepted};
 ghost use Rattle.san_net.specs.Laid.{places_of};
 ghost use Rattle.san_net.specs.Leaf.{found_by, first_in};
 ghost use Rattle.san_law.specs.Net.{Nothing};
-ghost use Rattle.san_seq.specs.inner.Firsts.{AreEarlier, IsEarlier, IsFirst};
+ghost use Rattle.san_seq.specs.inner.Firsts.{AreEarlier, AreEarlierBy, EachEarlier, IsEarlier, IsFirst};
 ghost use Rattle.san_seq.specs.inner.Known.{AreSettled, HaveSame};
 ghost use Rattle.san_seq.specs.inner.Nexts.{first_by, first_from, next_among, next_in};
-ghost use Rattle.san_seq.specs.inner.Wakes.{AreWoken};
+ghost use Rattle.san_seq.specs.inner.Wakes.{AreOrdered, AreWoken, EachOrdered};
 
 use crate::flagged::Flagged;
 use crate::renewal::Markings;
 use crate::stale::Stale;
-use crate::wakes::Wakes;
+use crate::wakes::{Band, Wakes};
 use san_base::{LeafId, PlaceId, Trap};
 use san_net::{FirstInstant, Flat, LeafCells, Part, first_instant};
 
@@ -112,8 +112,54 @@ fn first_among(flat: &Flat, leaves: &[LeafId], first: First, marking: &[u32]) ->
     first
 }
 
-/// The same of the leaves whose instantaneous activities hang on a place. They have nothing where it
-/// has the value of the last stable marking.
+/// The same of a band's leaves, where a change of its place concerns them.
+fn first_of_band(
+    flat: &Flat,
+    band: &Band,
+    was: u32,
+    is: u32,
+    first: First,
+    marking: &[u32],
+) -> First
+    requires first { IsFirst flat.now.parts marking.now first }
+    requires ordered { AreOrdered (length flat.now.parts) band.now.leaves.items }
+    requires sized { length marking.now ≡ length flat.now.initial }
+    ensures first { IsFirst flat.now.parts marking.now result }
+    ensures sooner { result.leaf.0 ≤ first.leaf.0 }
+    ensures none { AreEarlierBy flat.now.parts band.now was is marking.now result.leaf.0 }
+{
+    if band.is_crossed(was, is) {
+        first_among(flat, &band.leaves, first, marking)
+    } else {
+        first
+    }
+}
+
+/// The same of the bands of a place.
+fn first_of_bands(
+    flat: &Flat,
+    bands: &[Band],
+    was: u32,
+    is: u32,
+    first: First,
+    marking: &[u32],
+) -> First
+    requires first { IsFirst flat.now.parts marking.now first }
+    requires ordered { EachOrdered (length flat.now.parts) bands.now }
+    requires sized { length marking.now ≡ length flat.now.initial }
+    ensures first { IsFirst flat.now.parts marking.now result }
+    ensures sooner { result.leaf.0 ≤ first.leaf.0 }
+    ensures none { EachEarlier flat.now.parts bands.now was is marking.now result.leaf.0 }
+{
+    let mut first = first;
+    'bands: for k in 0..bands.len() {
+        first = first_of_band(flat, &bands[k], was, is, first, marking);
+    }
+    first
+}
+
+/// The same of the leaves whose instantaneous activities hang on a place. They have nothing where
+/// their weights see what they saw in the last stable marking.
 fn first_of_place(
     flat: &Flat,
     wakes: &Wakes,
@@ -132,10 +178,13 @@ fn first_of_place(
         markings.now.present.now result.leaf.0 place.0 }
 {
     let at = place.0 as usize;
-    if markings.stable[at] == markings.present[at] {
+    let was = markings.stable[at];
+    let is = markings.present[at];
+    if was == is {
         return first;
     }
-    first_among(flat, wakes.instants(place), first, markings.present)
+    let bands = wakes.instants(place);
+    first_of_bands(flat, bands, was, is, first, markings.present)
 }
 
 /// The first leaf's that has one, in order, where the last stable marking was one: only leaves that

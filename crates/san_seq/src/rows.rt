@@ -3,9 +3,9 @@
 ghost use Rattle.std.specs.Option.{option_map};
 ghost use Rattle.std.specs.Prelude.{All, IfErr, IfOk, None, Some, length, map, slice_get, slice_index, slice_set, Option, ℕ, ◌*◌, ◌+◌, ◌<◌, ◌≡◌, ◌≤◌};
 ghost use Rattle.san_base.specs.declared.limits.TheConstants.{MAX_DRAWS, MAX_TIME};
-ghost use Rattle.san_clock.specs.Rows.{renewing_by, timer_in};
+ghost use Rattle.san_clock.specs.Rows.{renewing_by};
 ghost use Rattle.san_draw.specs.Key.{draw_of};
-ghost use Rattle.san_law.specs.Net.{and_timer, least_timer, sooner_act, without_timer};
+ghost use Rattle.san_law.specs.Net.{least_timer, without_timer};
 ghost use Rattle.san_law.specs.Network.{Limits};
 ghost use Rattle.san_law.specs.Renewal as law;
 ghost use Rattle.san_law.specs.State.{State};
@@ -20,7 +20,7 @@ ghost use Rattle.san_seq.specs.inner.Rows.{AreRows, IsLike, row_at};
 use crate::completion::complete_at;
 use crate::renewal::{Markings, renew_at};
 use san_base::{LeafId, MAX_ACTS, NoMemory, Trap};
-use san_clock::{Row, Timer};
+use san_clock::{Row, least_of};
 use san_delay::DelayTables;
 use san_draw::Streams;
 use san_net::Flat;
@@ -57,34 +57,6 @@ impl Model for Rows {
     ghost view = { λ r. r.rows.items };
 
     ghost invariant = { λ r. AreDues r.behind r.dues r.rows.items };
-}
-
-/// The timer of an activity before the least of those after it.
-fn and_timer(act: u32, timer: Option<Timer>, rest: Option<(u64, u32)>) -> Option<(u64, u32)>
-    ensures { result ≡ and_timer act (option_map timer_in timer) rest }
-{
-    match timer {
-        Some(timer) => match rest {
-            Some(least) if least.0 < timer.due => Some(least),
-            _ => Some((timer.due, act)),
-        },
-        None => rest,
-    }
-}
-
-/// The least timer of a row: when it is due, and its activity; for equal times the first activity's.
-fn least_of(row: &Row) -> Option<(u64, u32)>
-    requires { length row.now.timers ≤ MAX_ACTS }
-    ensures { result ≡ least_timer row.now }
-{
-    let timers = row.timers();
-    let mut least = None;
-    let mut k = timers.len();
-    'acts: while k > 0 {
-        k -= 1;
-        least = and_timer(k as u32, timers[k], least);
-    }
-    least
 }
 
 /// A leaf's least timer, as one of the network.

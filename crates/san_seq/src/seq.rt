@@ -5,7 +5,7 @@ ghost use Rattle.san_base.specs.Limits.{IsInRange};
 ghost use Rattle.san_draw.specs.Key.{draw_of};
 ghost use Rattle.san_net.specs.Network.{net_of};
 ghost use Rattle.san_seq.specs.FlatRun as run;
-ghost use Rattle.san_seq.specs.Overs.{limits_in};
+ghost use Rattle.san_net.specs.Runs.{limits_in};
 ghost use Rattle.san_seq.specs.Outcomes.{stepped_of};
 ghost use Rattle.san_seq.specs.inner.Held as held;
 ghost use Rattle.san_seq.specs.inner.Nexts.{next_in};

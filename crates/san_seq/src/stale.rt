@@ -3,11 +3,11 @@
 ghost use Rattle.std.specs.Prelude.{◌≡◌, ◌<◌, ◌∷◌, ℕ, [], true, false, length, replicate, slice_get, slice_index, slice_set, Some, IfOk};
 ghost use Rattle.san_net.specs.Laid.{places_of};
 ghost use Rattle.san_net.specs.declared.part.Part.{Part};
-ghost use Rattle.san_seq.specs.inner.Known.{AreTouched, HasFlags, HaveFlags, HaveSame, Raised};
-ghost use Rattle.san_seq.specs.inner.Wakes.{AreWoken};
+ghost use Rattle.san_seq.specs.inner.Known.{AreRaised, AreTouched, HasFlags, HaveFlags, HaveSame, Raised};
+ghost use Rattle.san_seq.specs.inner.Wakes.{AreOrdered, AreWoken, EachOrdered};
 
 use crate::flagged::Flagged;
-use crate::wakes::Wakes;
+use crate::wakes::{Band, Wakes};
 use san_base::{LeafId, NoMemory, PlaceId};
 use san_net::Flat;
 use std::alloc::Global;
@@ -66,6 +66,26 @@ fn raise(flags: &mut Flagged, leaves: &[LeafId])
     }
 }
 
+/// The flags of a band's leaves go up where a change of its place crosses its weight.
+fn raise_band(flags: &mut Flagged, band: &Band, was: u32, is: u32)
+    requires { AreOrdered (length flags.old) band.now.leaves.items }
+    ensures { AreRaised (band.now ∷ []) was is flags.old flags.new }
+{
+    if band.is_crossed(was, is) {
+        raise(flags, &band.leaves);
+    }
+}
+
+/// The same of all bands of a place.
+fn raise_bands(flags: &mut Flagged, bands: &[Band], was: u32, is: u32)
+    requires { EachOrdered (length flags.old) bands.now }
+    ensures { AreRaised bands.now was is flags.old flags.new }
+{
+    'bands: for k in 0..bands.len() {
+        raise_band(flags, &bands[k], was, is);
+    }
+}
+
 /// Where a place has another value than at the last stable point, it and the timers of all leaves
 /// that this concerns are stale.
 fn touch_place(wakes: &Wakes, place: PlaceId, stable: &[u32], marking: &[u32], stale: &mut Stale)
@@ -76,9 +96,11 @@ fn touch_place(wakes: &Wakes, place: PlaceId, stable: &[u32], marking: &[u32], s
     ensures { AreTouched wakes.now (place.0 ∷ []) stable.now marking.now stale.old stale.new }
 {
     let at = place.0 as usize;
-    if stable[at] != marking[at] {
+    let was = stable[at];
+    let is = marking[at];
+    if was != is {
         stale.places.raise(at);
-        raise(&mut stale.timers, wakes.timers(place));
+        raise_bands(&mut stale.timers, wakes.timers(place), was, is);
     }
 }
 

@@ -9,8 +9,8 @@ ghost use Rattle.san_law.specs.Step as law;
 ghost use Rattle.san_net.specs.Laid.{acts_of};
 ghost use Rattle.san_net.specs.Network.{Network, net_of};
 ghost use Rattle.san_net.specs.Tables.{IsActOf};
-ghost use Rattle.san_seq.specs.Overs.{limits_in};
-ghost use Rattle.san_seq.specs.Outcomes.{ending_in, event_or_ending};
+ghost use Rattle.san_net.specs.Runs.{ending_in, limits_in};
+ghost use Rattle.san_seq.specs.Outcomes.{event_or_ending};
 ghost use Rattle.san_seq.specs.inner.Rows.{AreRows, row_at};
 ghost use Rattle.san_seq.specs.inner.States.{complete_in, instant_in};
 

@@ -17,7 +17,7 @@ ghost use Rattle.san_base.specs.declared.limits.TheConstants.{MAX_TIME};
 ghost use Rattle.san_seq.specs.inner.Dues.{due_in};
 ghost use Rattle.san_seq.specs.inner.Known.{AreFresh, AreIdle, AreQuiet, AreSettled, HasFlags, HaveSame};
 ghost use Rattle.san_seq.specs.inner.Nexts.{next_in};
-ghost use Rattle.san_seq.specs.Overs.{limits_in};
+ghost use Rattle.san_net.specs.Runs.{limits_in};
 ghost use Rattle.san_seq.specs.inner.Rows.{AreDrawn, AreRows, IsLike, renewal_by, row_at};
 ghost use Rattle.san_seq.specs.inner.Running.{IsDrawn, IsRunning, Steps, with_rows};
 ghost use Rattle.san_seq.specs.inner.Wakes.{AreWoken};

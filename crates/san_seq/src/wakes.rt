@@ -1,20 +1,29 @@
 //! For each place the leaves that a change there concerns.
 
-ghost use Rattle.std.specs.Prelude.{◌≡◌, ◌<◌, ◌≤◌, ◌∷◌, ◌++◌, ℕ, [], length, map, replicate, IfOk, OnOk, slice_get, slice_index_or, slice_set, Some};
-ghost use Rattle.san_net.specs.Laid.{place_of, places_of};
-ghost use Rattle.san_seq.specs.inner.Wakes.{AreWoken, IsNoted, IsNotedAt, IsTable, leaves_at};
+ghost use Rattle.std.specs.Prelude.{◌≡◌, ◌==◌, ◌<◌, length, not, IfOk};
+ghost use Rattle.san_seq.specs.inner.Wakes.{AreWoken, bands_at, level};
 
-use crate::concern::{Concern, concerns};
-use san_base::{LeafId, MAX_CELLS, Name, NoMemory, PlaceId};
-use san_net::{Activity, Flat, Part};
+use crate::bands::table;
+use crate::concern::Concern;
+use san_base::{LeafId, NoMemory, PlaceId};
+use san_net::Flat;
 use std::alloc::Global;
 use std::marker::Model;
+
+/// The leaves whose activities look at a place by one weight. A change concerns them where it
+/// crosses the weight; with 0 each change does.
+#[derive(Debug, Drop)]
+pub(crate) struct Band {
+    pub(crate) weight: u32,
+    /// By number.
+    pub(crate) leaves: Vec<LeafId>,
+}
 
 /// For each place the leaves whose instantaneous activities hang on it, and those whose timers do.
 #[derive(Drop)]
 pub(crate) struct Wakes {
-    instants: Vec<Vec<LeafId>>,
-    timers: Vec<Vec<LeafId>>,
+    instants: Vec<Vec<Band>>,
+    timers: Vec<Vec<Band>>,
 }
 
 impl Model for Wakes {
@@ -26,78 +35,26 @@ impl Model for Wakes {
     ghost view = { λ w. record { instants = map (λ v. v.items) w.instants.items; timers = map (λ v. v.items) w.timers.items } };
 }
 
-/// Puts a leaf behind those of a place.
-fn push_at(table: &mut Vec<Vec<LeafId>>, place: usize, leaf: LeafId) -> Result<(), NoMemory>
-    requires { place < length table.old.items }
-    ensures sized { length table.new.items ≡ length table.old.items }
-    ensures pushed { OnOk result (map (λ v. v.items) table.new.items
-        ≡ slice_set (map (λ v. v.items) table.old.items) place (slice_index_or (map (λ v. v.items)
-        table.old.items) place [] ++ leaf ∷ [])) }
+/// What of a value a weight sees: whether the value is as great; with 0 all of it.
+fn level(weight: u32, value: u32) -> u32
+    ensures { result ≡ level weight value }
 {
-    table[place].push(leaf)?;
-    Ok(())
+    if weight == 0 {
+        value
+    } else if weight <= value {
+        1
+    } else {
+        0
+    }
 }
 
-/// Notes a leaf at the place of a cell whose change concerns it.
-fn note_cell(
-    table: &mut Vec<Vec<LeafId>>,
-    concern: Concern,
-    acts: &[(Name, Activity)],
-    leaf: LeafId,
-    cell: u32,
-    place: PlaceId,
-) -> Result<(), NoMemory>
-    requires { place.0 < length table.old.items }
-    ensures sized { length table.new.items ≡ length table.old.items }
-    ensures noted { OnOk result (IsNotedAt concern acts.now leaf cell place.0 (map (λ v. v.items)
-        table.old.items) (map (λ v. v.items) table.new.items)) }
-{
-    if !concerns(concern, acts, cell) {
-        return Ok(());
+impl Band {
+    /// Whether a change of its place concerns its leaves.
+    pub(crate) fn is_crossed(&self, old: u32, new: u32) -> bool
+        ensures { result ≡ not (level self.now.weight old == level self.now.weight new) }
+    {
+        level(self.weight, old) != level(self.weight, new)
     }
-    push_at(table, place.0 as usize, leaf)?;
-    Ok(())
-}
-
-/// Notes a leaf at each of its places whose change concerns it.
-fn note(table: &mut Vec<Vec<LeafId>>, concern: Concern, part: &Part) -> Result<(), NoMemory>
-    requires cells { length part.now.slots ≤ MAX_CELLS }
-    requires within { (i place : ℕ) → slice_get (places_of part.now) i ≡ Some place
-        → place < length table.old.items }
-    ensures sized { length table.new.items ≡ length table.old.items }
-    ensures noted { OnOk result (IsNoted concern part.now.atomic.acts part.now.leaf (places_of
-        part.now) (map (λ v. v.items) table.old.items) (map (λ v. v.items) table.new.items)) }
-{
-    let slots = part.slots.as_slice();
-    let acts = part.atomic.get().acts.as_slice();
-    'cells: for k in 0..slots.len() {
-        note_cell(table, concern, acts, part.leaf, k as u32, slots[k].place())?;
-    }
-    Ok(())
-}
-
-/// `places` empty lists.
-fn empty_lists(alloc: Global, places: usize) -> Result<Vec<Vec<LeafId>>, NoMemory>
-    ensures { IfOk result (λ v. map (λ x. x.items) v.items ≡ replicate places []) }
-{
-    let mut table = Vec::with_capacity(alloc, places)?;
-    'places: for _ in 0..places {
-        table.push(Vec::new(alloc))?;
-    }
-    Ok(table)
-}
-
-/// For each place the leaves that it concerns.
-fn table(alloc: Global, flat: &Flat, concern: Concern) -> Result<Vec<Vec<LeafId>>, NoMemory>
-    ensures { IfOk result (λ v. IsTable concern flat.now (length flat.now.parts) (map (λ x. x.items)
-        v.items)) }
-{
-    flat.is_network();
-    let mut table = empty_lists(alloc, flat.places() as usize)?;
-    'leaves: for j in 0..flat.leaves() {
-        note(&mut table, concern, flat.part(LeafId(j)).get())?;
-    }
-    Ok(table)
 }
 
 impl Wakes {
@@ -111,20 +68,20 @@ impl Wakes {
     }
 
     /// The leaves whose instantaneous activities hang on a place.
-    pub(crate) fn instants(&self, place: PlaceId) -> &[LeafId]
+    pub(crate) fn instants(&self, place: PlaceId) -> &[Band]
         requires { place.0 < length self.now.instants }
-        ensures { result.now ≡ leaves_at self.now.instants place.0 }
+        ensures { result.now ≡ bands_at self.now.instants place.0 }
     {
-        let leaves = &self.instants[place.0 as usize];
-        leaves.as_slice()
+        let bands = &self.instants[place.0 as usize];
+        bands.as_slice()
     }
 
     /// The leaves whose timers do.
-    pub(crate) fn timers(&self, place: PlaceId) -> &[LeafId]
+    pub(crate) fn timers(&self, place: PlaceId) -> &[Band]
         requires { place.0 < length self.now.timers }
-        ensures { result.now ≡ leaves_at self.now.timers place.0 }
+        ensures { result.now ≡ bands_at self.now.timers place.0 }
     {
-        let leaves = &self.timers[place.0 as usize];
-        leaves.as_slice()
+        let bands = &self.timers[place.0 as usize];
+        bands.as_slice()
     }
 }

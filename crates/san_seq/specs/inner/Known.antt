@@ -1,5 +1,5 @@
 -- What flags that are down say: nothing on which a leaf's activities hang has changed since the last stable marking.
-use Rattle.std.specs.Prelude.{ℕ, ◌≡◌, ◌<◌, IsTrue, Bool, true, false, List, length, Some, slice_get, slice_index}
+use Rattle.std.specs.Prelude.{ℕ, ◌≡◌, Bool, true, false, List, length, Some, slice_get, slice_index}
 use Rattle.san_base.specs.declared.numbers.LeafId.{LeafId}
 use Rattle.san_law.specs.Clocks.{IsSteady}
 use Rattle.san_law.specs.Net as net
@@ -14,11 +14,16 @@ use Rattle.san_seq.specs.declared.stale.Stale.{Stale}
 use Rattle.san_seq.specs.inner.Nexts.{first_of_part}
 use Rattle.san_seq.specs.inner.Renewals.{renewed_part}
 use Rattle.san_seq.specs.inner.Rows.{row_at}
-use Rattle.san_seq.specs.inner.Wakes.{AreWoken, Stands, Woken, concerned, leaves_at}
+use Rattle.san_seq.specs.declared.wakes.Band.{Band}
+use Rattle.san_seq.specs.inner.Wakes.{AreWoken, EachOrdered, EachWeight, Stands, Woken, bands_at, level}
 
--- the cells of a leaf on which some of its activities hang have the same values in both markings
+-- a weight sees the same of a place in both markings
+abbrev pub SeesSame : List ℕ → List ℕ → ℕ → ℕ → Type 0
+SeesSame stable m q weight = level weight (slice_index stable q) ≡ level weight (slice_index m q)
+
+-- the weights by which a leaf's activities hang on its cells see the same in both markings
 abbrev pub AreSameOn : Concern → Part → List ℕ → List ℕ → Type 0
-AreSameOn x p stable m = (i q : ℕ) → slice_get (places_of p) i ≡ Some q → IsTrue (concerned x p.atomic.acts i) → slice_index stable q ≡ slice_index m q
+AreSameOn x p stable m = (i q : ℕ) → slice_get (places_of p) i ≡ Some q → EachWeight x p.atomic.acts i (SeesSame stable m q)
 
 -- no leaf has anything to complete at once
 abbrev pub AreSettled : List Part → List ℕ → Type 0
@@ -60,21 +65,27 @@ pub record Raised (leaves : List LeafId) (old new : List Bool) : Type 0 where
   pub kept : StayUp old new
   pub raised : (k : ℕ) (leaf : LeafId) → slice_get leaves k ≡ Some leaf → slice_get new leaf.0 ≡ Some true
 
--- and where one of some places has another value than at the last stable point, those of all whom it wakes
-pub record IsTouched (Wakes : ℕ → ℕ → Type 0) (these stable m : List ℕ) (old new : List Bool) : Type 0 where
+-- and those of the leaves whose band a change crosses are up
+pub record AreRaised (bands : List Band) (was now : ℕ) (old new : List Bool) : Type 0 where
   pub sized : length new ≡ length old
   pub kept : StayUp old new
-  pub equal : (k j q : ℕ) → slice_get these k ≡ Some q → slice_get new j ≡ Some false → Wakes q j → slice_index stable q ≡ slice_index m q
+  pub equal : (b k : ℕ) (band : Band) (leaf : LeafId) → slice_get bands b ≡ Some band → slice_get band.leaves.items k ≡ Some leaf → slice_get new leaf.0 ≡ Some false → level band.weight was ≡ level band.weight now
+
+-- and where a weight sees another value of one of some places than at the last stable point, those of all whom this wakes
+pub record IsTouched (Wakes : ℕ → ℕ → ℕ → Type 0) (these stable m : List ℕ) (old new : List Bool) : Type 0 where
+  pub sized : length new ≡ length old
+  pub kept : StayUp old new
+  pub equal : (k j q weight : ℕ) → slice_get these k ≡ Some q → slice_get new j ≡ Some false → Wakes q weight j → SeesSame stable m q weight
 
 -- the leaves whose timers it concerns, and itself
 pub record AreTouched (w : Woken) (these stable m : List ℕ) (old new : Stale) : Type 0 where
   pub settled : new.settled ≡ old.settled
-  pub timers : IsTouched (Stands w.timers) these stable m old.timers new.timers
-  pub places : IsTouched (λ q j. q ≡ j) these stable m old.places new.places
+  pub timers : IsTouched (λ q weight j. Stands (bands_at w.timers q) weight j) these stable m old.timers new.timers
+  pub places : IsTouched (λ q weight j. (q ≡ j) × (weight ≡ 0)) these stable m old.places new.places
 
 -- each leaf at a place has a flag, and each place has leaves
 pub record HaveFlags (w : Woken) (stale : Stale) : Type 0 where
-  pub timers : (q k : ℕ) (leaf : LeafId) → slice_get (leaves_at w.timers q) k ≡ Some leaf → leaf.0 < length stale.timers
+  pub timers : (q : ℕ) → EachOrdered (length stale.timers) (bands_at w.timers q)
   pub places : length w.timers ≡ length stale.places
 
 -- at a stable marking the rows are those that renewal leaves

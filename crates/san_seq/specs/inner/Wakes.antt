@@ -1,76 +1,100 @@
 -- Which leaves a change of a place concerns.
-use Rattle.std.specs.Prelude.{ℕ, ◌≡◌, ◌≤◌, ◌<◌, ◌⊎◌, true, false, IsTrue, List, [], length, map, Some, None, slice_get, slice_index_or}
+use Rattle.std.specs.Prelude.{ℕ, ◌+◌, ◌≡◌, ◌≤◌, ◌<◌, ◌==◌, nat_le, nat_eq, if◌then◌else◌, List, [], length, Option, Some, None, All, IfSome, slice_get, slice_index_or}
 use Rattle.san_base.specs.declared.numbers.LeafId.{LeafId}
-use Rattle.san_expr.specs.Mentions.{CellSet, any_of}
+use Rattle.san_expr.specs.Mentions.{mentions}
 use Rattle.san_net.specs.Instants.{Named}
 use Rattle.san_net.specs.Laid.{places_of}
-use Rattle.san_net.specs.Mentions.{enabling_mentions}
 use Rattle.san_net.specs.Network.{Network}
 use Rattle.san_net.specs.declared.activity.ActKind.{ActKind}
 use Rattle.san_net.specs.declared.activity.ActKind.TheVariants as kind
 use Rattle.san_net.specs.declared.activity.Activity.{Activity}
+use Rattle.san_net.specs.declared.activity.Input.{Input}
+use Rattle.san_net.specs.declared.activity.Input.TheVariants as input
 use Rattle.san_net.specs.declared.part.Part.{Part}
 use Rattle.san_seq.specs.declared.concern.Concern.{Concern}
 use Rattle.san_seq.specs.declared.concern.Concern.TheVariants as concern
+use Rattle.san_seq.specs.declared.wakes.Band.{Band}
 
--- an instantaneous activity hangs on the cells that its predicates name
-abbrev pub instant_cells : ActKind → Activity → CellSet
-instant_cells (kind.Timed delay pair) a q = false
-instant_cells (kind.Instant priority) a q = enabling_mentions a q
+-- what of a value a weight sees: whether the value is as great; with 0 all of it
+abbrev pub level : ℕ → ℕ → ℕ
+level weight value = if weight == 0 then value else (if nat_le weight value then 1 else 0)
 
--- and so does the timer of one that is timed; with a pair it hangs on all cells of the leaf
-abbrev pub timer_cells : ActKind → Activity → CellSet
-timer_cells (kind.Timed delay None) a q = enabling_mentions a q
-timer_cells (kind.Timed delay (Some pair)) a q = true
-timer_cells (kind.Instant priority) a q = false
+-- by which weight a predicate looks at a cell, if it does: an arc by its own, a gate at all of the value
+abbrev pub weight_at : Input → ℕ → Option ℕ
+weight_at (input.Arc p w) q = if nat_eq q p then Some w else None
+weight_at (input.Gate e body) q = if mentions e q then Some 0 else None
 
-abbrev pub act_cells : Concern → Activity → CellSet
-act_cells concern.Instants a = instant_cells a.kind a
-act_cells concern.Timers a = timer_cells a.kind a
+-- a fact of each weight by which an activity's predicates look at a cell
+abbrev pub EachOf : List Input → ℕ → (ℕ → Type 0) → Type 0
+EachOf inputs q P = All (λ i. IfSome (weight_at i q) P) inputs
 
--- the cells on which some activity of a leaf hangs
-abbrev pub concerned : Concern → List Named → CellSet
-concerned x acts = any_of (map (λ a. act_cells x a.1) acts)
+-- an instantaneous activity hangs on what its predicates look at
+abbrev pub EachInstant : ActKind → Activity → ℕ → (ℕ → Type 0) → Type 0
+EachInstant (kind.Timed delay pair) a q P = Unit {0}
+EachInstant (kind.Instant priority) a q P = EachOf a.inputs q P
 
--- for each place the leaves that a change there concerns
+-- and so does the timer of one that is timed; with a pair it hangs on all values of the leaf
+abbrev pub EachTimed : ActKind → Activity → ℕ → (ℕ → Type 0) → Type 0
+EachTimed (kind.Timed delay None) a q P = EachOf a.inputs q P
+EachTimed (kind.Timed delay (Some pair)) a q P = P 0
+EachTimed (kind.Instant priority) a q P = Unit {0}
+
+abbrev pub EachOfAct : Concern → Activity → ℕ → (ℕ → Type 0) → Type 0
+EachOfAct concern.Instants a q P = EachInstant a.kind a q P
+EachOfAct concern.Timers a q P = EachTimed a.kind a q P
+
+-- a fact of each weight by which a leaf's activities hang on a cell
+abbrev pub EachWeight : Concern → List Named → ℕ → (ℕ → Type 0) → Type 0
+EachWeight x acts q P = All (λ a. EachOfAct x a.1 q P) acts
+
+-- for each place the bands of the leaves that a change there concerns
 pub record Woken : Type 0 where
-  pub instants : List (List LeafId)
-  pub timers : List (List LeafId)
+  pub instants : List (List Band)
+  pub timers : List (List Band)
 
-abbrev pub leaves_at : List (List LeafId) → ℕ → List LeafId
-leaves_at table q = slice_index_or table q []
+abbrev pub bands_at : List (List Band) → ℕ → List Band
+bands_at table q = slice_index_or table q []
 
--- a leaf stands at a place
-abbrev pub Stands : List (List LeafId) → ℕ → ℕ → Type 0
-Stands table q j = (k : ℕ) × (slice_get (leaves_at table q) k ≡ Some (record { 0 = j }))
+-- a leaf stands in a band of this weight
+pub record Stands (bands : List Band) (weight j : ℕ) : Type 0 where
+  pub at : ℕ
+  pub band : Band
+  pub is : slice_get bands at ≡ Some band
+  pub weighs : band.weight ≡ weight
+  pub among : ℕ
+  pub leaf : slice_get band.leaves.items among ≡ Some (record { 0 = j })
 
--- leaves by number, none greater than one
-pub record IsAscending (most : ℕ) (leaves : List LeafId) : Type 0 where
-  pub most_is : (k : ℕ) (leaf : LeafId) → slice_get leaves k ≡ Some leaf → leaf.0 ≤ most
+-- leaves by number, each below a bound
+pub record AreOrdered (many : ℕ) (leaves : List LeafId) : Type 0 where
+  pub within : (k : ℕ) (leaf : LeafId) → slice_get leaves k ≡ Some leaf → leaf.0 < many
   pub ordered : (i k : ℕ) (a b : LeafId) → i < k → slice_get leaves i ≡ Some a → slice_get leaves k ≡ Some b → a.0 ≤ b.0
 
--- a leaf went to the place of a cell that concerns it
-pub record IsNotedAt (x : Concern) (acts : List Named) (leaf : LeafId) (cell place : ℕ) (before after : List (List LeafId)) : Type 0 where
-  pub sized : length after ≡ length before
-  pub kept : (q j : ℕ) → Stands before q j → Stands after q j
-  pub new : (q k : ℕ) (l : LeafId) → slice_get (leaves_at after q) k ≡ Some l → (l ≡ leaf) ⊎ ((i : ℕ) × (slice_get (leaves_at before q) i ≡ Some l))
-  pub ascending : (q : ℕ) → IsAscending leaf.0 (leaves_at before q) → IsAscending leaf.0 (leaves_at after q)
-  pub there : IsTrue (concerned x acts cell) → Stands after place leaf.0
+abbrev pub EachOrdered : ℕ → List Band → Type 0
+EachOrdered many bands = (b : ℕ) (band : Band) → slice_get bands b ≡ Some band → AreOrdered many band.leaves.items
 
--- a leaf went to these of its places that concern it
-pub record IsNoted (x : Concern) (acts : List Named) (leaf : LeafId) (places : List ℕ) (before after : List (List LeafId)) : Type 0 where
-  pub sized : length after ≡ length before
-  pub kept : (q j : ℕ) → Stands before q j → Stands after q j
-  pub new : (q k : ℕ) (l : LeafId) → slice_get (leaves_at after q) k ≡ Some l → (l ≡ leaf) ⊎ ((i : ℕ) × (slice_get (leaves_at before q) i ≡ Some l))
-  pub ascending : (q : ℕ) → IsAscending leaf.0 (leaves_at before q) → IsAscending leaf.0 (leaves_at after q)
-  pub there : (i q : ℕ) → slice_get places i ≡ Some q → IsTrue (concerned x acts i) → Stands after q leaf.0
+-- a leaf went behind others, or was the last of them
+pub record Joins (leaf : LeafId) (old new : List LeafId) : Type 0 where
+  pub kept : (k : ℕ) (l : LeafId) → slice_get old k ≡ Some l → slice_get new k ≡ Some l
+  pub at : ℕ
+  pub there : slice_get new at ≡ Some leaf
+  pub ordered : AreOrdered (leaf.0 + 1) old → AreOrdered (leaf.0 + 1) new
 
--- the first so many leaves stand at each place that concerns them, by number, and no others
-pub record IsTable (x : Concern) (n : Network) (many : ℕ) (table : List (List LeafId)) : Type 0 where
+-- a leaf joined some bands, behind those that stood there
+pub record Gains (leaf : LeafId) (old new : List Band) : Type 0 where
+  pub kept : (weight j : ℕ) → Stands old weight j → Stands new weight j
+  pub ordered : EachOrdered (leaf.0 + 1) old → EachOrdered (leaf.0 + 1) new
+
+-- a leaf joined the bands of its places
+pub record IsNoted (x : Concern) (acts : List Named) (leaf : LeafId) (places : List ℕ) (old new : List (List Band)) : Type 0 where
+  pub sized : length new ≡ length old
+  pub gains : (q : ℕ) → Gains leaf (bands_at old q) (bands_at new q)
+  pub there : (i q : ℕ) → slice_get places i ≡ Some q → EachWeight x acts i (λ w. Stands (bands_at new q) w leaf.0)
+
+-- the first so many leaves stand in the bands of their places, by number, and no others
+pub record IsTable (x : Concern) (n : Network) (many : ℕ) (table : List (List Band)) : Type 0 where
   pub sized : length table ≡ length n.initial
-  pub within : (q k : ℕ) (leaf : LeafId) → slice_get (leaves_at table q) k ≡ Some leaf → leaf.0 < many
-  pub ordered : (q i k : ℕ) (a b : LeafId) → i < k → slice_get (leaves_at table q) i ≡ Some a → slice_get (leaves_at table q) k ≡ Some b → a.0 ≤ b.0
-  pub there : (j i q : ℕ) (p : Part) → j < many → slice_get n.parts j ≡ Some p → slice_get (places_of p) i ≡ Some q → IsTrue (concerned x p.atomic.acts i) → Stands table q j
+  pub ordered : (q : ℕ) → EachOrdered many (bands_at table q)
+  pub there : (j i q : ℕ) (p : Part) → j < many → slice_get n.parts j ≡ Some p → slice_get (places_of p) i ≡ Some q → EachWeight x p.atomic.acts i (λ w. Stands (bands_at table q) w j)
 
 -- all leaves do
 pub record AreWoken (n : Network) (w : Woken) : Type 0 where

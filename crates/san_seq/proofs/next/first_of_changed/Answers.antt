@@ -26,7 +26,7 @@ places-preserved c =
     record {
       first = c.first_of_place-first.ensures.first;
       none = front_more (IsEarlier n.parts w stable m many) c.list-changed.result.now c.places.k _ here c.first_of_place-first.ensures.none
-          (λ i q u is j there l. c.places.invariant.none i q u is j there (omega (arith, l, c.first_of_place-first.ensures.sooner)));
+          (λ i q u is weight j there l. c.places.invariant.none i q u is weight j there (omega (arith, l, c.first_of_place-first.ensures.sooner)));
     }
 
 pub returns : goal.returns

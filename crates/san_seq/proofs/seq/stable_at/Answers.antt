@@ -3,7 +3,7 @@ use Rattle.san_net.specs.Network.{net_of}
 use Rattle.san_seq.specs.FlatRun.{run_phase_in, stable_in, where_stable}
 use Rattle.san_seq.specs.inner.Held.{IsRunPhase}
 use Rattle.san_seq.specs.declared.seq.Phase.{Phase}
-use Rattle.san_seq.specs.Overs.{limits_in}
+use Rattle.san_net.specs.Runs.{limits_in}
 use Rattle.san_seq.proofs.seq.stable_at.Goals as goal
 
 pub next_of-requires-clause-known : goal.next_of-requires-clause-known

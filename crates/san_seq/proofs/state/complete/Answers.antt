@@ -10,7 +10,7 @@ use Rattle.san_net.specs.Network.{net_of}
 use Rattle.san_seq.specs.inner.Completions.{completed_by}
 use Rattle.san_seq.specs.inner.Rows.{row_at}
 use Rattle.san_seq.specs.inner.States.{complete_in}
-use Rattle.san_seq.specs.Outcomes.{ending_in}
+use Rattle.san_net.specs.Runs.{ending_in}
 use Rattle.san_seq.proofs.AnswerLemmas.{case_answered}
 use Rattle.san_seq.proofs.StateLemmas.{completes, if_err, kept, left_is, done_in, traps}
 use Rattle.san_seq.proofs.state.complete.Goals as goal

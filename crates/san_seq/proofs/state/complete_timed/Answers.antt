@@ -3,9 +3,9 @@ use Rattle.std.specs.Option.{option_map}
 use Rattle.san_draw.specs.Key.{draw_of}
 use Rattle.san_law.specs.State.{State}
 use Rattle.san_law.specs.Step as law
-use Rattle.san_seq.specs.Overs.{limits_in}
+use Rattle.san_net.specs.Runs.{ending_in, limits_in}
 use Rattle.san_seq.specs.inner.States.{complete_in}
-use Rattle.san_seq.specs.Outcomes.{ending_in, event_or_ending}
+use Rattle.san_seq.specs.Outcomes.{event_or_ending}
 use Rattle.san_seq.proofs.LimitLemmas.{timed_is}
 use Rattle.san_seq.proofs.AnswerLemmas.{no_limit, stopped}
 use Rattle.san_seq.proofs.state.complete_timed.Goals as goal

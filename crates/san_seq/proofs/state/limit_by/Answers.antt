@@ -2,7 +2,7 @@ use Rattle.std.proofs.Common.{◌∙◌, ap, sym, cond, Bool, Some}
 use Rattle.std.specs.Option.{option_map}
 use Rattle.std.proofs.lemmas.Bool.{lt-ltb}
 use Rattle.san_law.specs.Step.{Unstable, events_left}
-use Rattle.san_seq.specs.Outcomes.{ending_in}
+use Rattle.san_net.specs.Runs.{ending_in}
 use Rattle.san_seq.proofs.state.limit_by.Goals as goal
 
 pub returns-then-burst-limits : goal.returns-then-burst-limits

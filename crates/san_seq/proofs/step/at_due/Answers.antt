@@ -4,7 +4,7 @@ use Rattle.san_law.specs.State.{State}
 use Rattle.san_law.specs.Step.{at_due, fire}
 use Rattle.san_net.specs.Network.{net_of}
 use Rattle.san_seq.specs.inner.Dues.{due_in}
-use Rattle.san_seq.specs.Overs.{limits_in}
+use Rattle.san_net.specs.Runs.{limits_in}
 use Rattle.san_seq.specs.inner.Running.{IsDrawn}
 use Rattle.san_seq.proofs.KnownLemmas.{fire_sized, if_answered, timed_known}
 use Rattle.san_seq.proofs.RangeLemmas.{rows_small}

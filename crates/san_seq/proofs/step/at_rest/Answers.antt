@@ -8,8 +8,7 @@ use Rattle.san_law.specs.State.{State}
 use Rattle.san_law.specs.Step.{End, Stepped, Trapped, at_due, at_rest}
 use Rattle.san_net.specs.Network.{net_of}
 use Rattle.san_seq.specs.inner.Dues.{due_in}
-use Rattle.san_seq.specs.Overs.{limits_in}
-use Rattle.san_seq.specs.Outcomes.{ending_in}
+use Rattle.san_net.specs.Runs.{ending_in, limits_in}
 use Rattle.san_seq.specs.inner.Rows.{renewal_by, row_at}
 use Rattle.san_seq.specs.inner.Running.{IsDrawn, Steps, with_rows}
 use Rattle.san_seq.proofs.RangeLemmas.{due_within, rows_small}

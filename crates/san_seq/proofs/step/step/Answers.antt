@@ -5,11 +5,10 @@ use Rattle.san_law.specs.State.{State}
 use Rattle.san_law.specs.Step.{Stepped, Trapped, step}
 use Rattle.san_net.specs.Network.{net_of}
 use Rattle.san_seq.specs.inner.Nexts.{next_in}
-use Rattle.san_seq.specs.Overs.{limits_in}
+use Rattle.san_net.specs.Runs.{ending_in, limits_in}
 use Rattle.san_seq.specs.inner.States.{instant_in}
 use Rattle.san_seq.specs.inner.Running.{Steps}
 use Rattle.san_seq.proofs.RangeLemmas.{acts_next, next_in_range}
-use Rattle.san_seq.specs.Outcomes.{ending_in}
 use Rattle.san_seq.proofs.KnownLemmas.{if_answered, instant_known, instant_sized, settled}
 use Rattle.san_seq.proofs.NextLaws.{next_is}
 use Rattle.san_seq.proofs.RunningLemmas.{ready}

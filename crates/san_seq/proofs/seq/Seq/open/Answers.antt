@@ -1,6 +1,6 @@
 use Rattle.std.proofs.Common.{arith, ap, sym, ◌∙◌}
 use Rattle.san_draw.specs.Key.{draw_of}
-use Rattle.san_seq.specs.Overs.{limits_in}
+use Rattle.san_net.specs.Runs.{limits_in}
 use Rattle.san_seq.proofs.KnownLemmas.{all_are_stale}
 use Rattle.san_seq.proofs.OpenLemmas.{begun_is, state_is, state_runs}
 use Rattle.san_seq.proofs.seq.Seq.open.Goals as goal

@@ -3,7 +3,7 @@ use Rattle.san_draw.specs.Key.{draw_of}
 use Rattle.san_net.specs.Network.{net_of}
 use Rattle.san_seq.specs.FlatRun.{run_phase_of, stable_in, stable_of}
 use Rattle.san_seq.specs.declared.seq.Phase.{Phase}
-use Rattle.san_seq.specs.Overs.{limits_in}
+use Rattle.san_net.specs.Runs.{limits_in}
 use Rattle.san_seq.proofs.seq.Seq.stable.Goals as goal
 
 pub returns : goal.returns
