@@ -15,7 +15,8 @@ use Rattle.san_net.specs.Network.{Network, net_of}
 use Rattle.san_net.specs.declared.atomic.ImpulseTerm.{ImpulseTerm}
 use Rattle.san_net.specs.declared.part.Part.{Part}
 use Rattle.san_core.specs.inner.Suits.{IsBounded}
-use Rattle.san_core.proofs.Suiting.{all_of, of_none, with_first}
+use Rattle.san_core.proofs.Suiting.{all_of, of_none}
+use Rattle.san_reward.proofs.Making.{with_first}
 
 -- what holds of each item of a list holds of those at its end
 all_right : {X : Type 0} (P : X → Type 0) (xs ys : List X) → All P (xs ++ ys) → All P ys

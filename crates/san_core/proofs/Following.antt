@@ -34,7 +34,7 @@ use Rattle.san_net.specs.Laid.{IsNetwork}
 use Rattle.san_net.specs.Leaf as net
 use Rattle.san_net.specs.Network.{Network, net_of, network_in}
 use Rattle.san_net.specs.declared.part.Part.{Part}
-use Rattle.san_core.specs.Nets.{event_in, limits_in, net_at}
+use Rattle.san_net.specs.Runs.{event_in, limits_in, net_at}
 use Rattle.san_core.specs.Committed.{Belongs, CommittedValue, StartsRun, quiet, with_taken}
 use Rattle.san_core.specs.Machines.{FollowsRun, IsNeeded, MachineValue, after_taking, core_in, core_taken, machine_by, net_in, opened}
 use Rattle.san_core.specs.inner.CanTake.{CanTake}

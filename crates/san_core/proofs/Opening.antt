@@ -47,7 +47,7 @@ acts_at [] j p is = absurd cc
 acts_at (q ∷ parts) zero p is = activities_long q.atomic.impulses 0 q.atomic.acts ∙ ap acts_or is
 acts_at (q ∷ parts) (suc j) p is = acts_at parts j p is
 
-same_place : (s : code.Slot) → law.place_of (slot_in s) ≡ place_of s
+pub same_place : (s : code.Slot) → law.place_of (slot_in s) ≡ place_of s
 same_place (slot.Private place) = refl
 same_place (slot.Shared place) = refl
 

@@ -19,7 +19,8 @@ use Rattle.san_core.specs.declared.admission.Taking.{Taking}
 use Rattle.san_core.specs.declared.over.Halt.{Halt}
 use Rattle.san_core.specs.inner.Held.{committed_by, stop_in}
 use Rattle.san_core.specs.inner.Steps.{put_in}
-use Rattle.san_core.proofs.Suiting.{of_none, with_first}
+use Rattle.san_core.proofs.Suiting.{of_none}
+use Rattle.san_reward.proofs.Making.{with_first}
 
 places_push : (xs : List (ℕ × ℕ)) (x : ℕ × ℕ) → places_of (xs ++ x ∷ []) ≡ places_of xs ++ x.0 ∷ []
 places_push [] x = refl

@@ -16,12 +16,8 @@ use Rattle.san_law.specs.Lawful.{AllApart, AllBelow, IsLaid, IsLawful}
 use Rattle.san_law.specs.Standing.{Stands}
 use Rattle.san_law.proofs.Least.{least_is_before}
 use Rattle.san_law.proofs.Orders.{due_within}
+use Rattle.san_reward.proofs.Making.{with_first}
 use Rattle.san_core.specs.inner.Suits.{IsBounded, Renews, Suits}
-
--- what holds of each item of a list with one more
-pub with_first : {X : Type 0} (P : X → Type 0) (x : X) (xs : List X) → P x → All P xs → All P (x ∷ xs)
-with_first P x xs h all zero d l = h
-with_first P x xs h all (suc k) d l = all k d (omega (arith, l))
 
 -- what holds of what the items are made into
 pub all_of : {X Y : Type 0} (P : Y → Type 0) (f : X → Y) (xs : List X) → All P (map f xs) → All (λ x. P (f x)) xs

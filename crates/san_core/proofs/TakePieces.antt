@@ -27,7 +27,7 @@ use Rattle.san_leaf.specs.declared.recorder.Impulse.{Impulse}
 use Rattle.san_net.specs.Network.{Network}
 use Rattle.san_net.specs.Tables.{first_of}
 use Rattle.san_net.specs.declared.part.Part.{Part}
-use Rattle.san_core.specs.Nets.{event_in}
+use Rattle.san_net.specs.Runs.{event_in}
 use Rattle.san_core.specs.Committed.{CommittedValue, with_taken}
 use Rattle.san_core.specs.declared.admission.Taking.{Taking}
 use Rattle.san_core.specs.declared.over.Over.{Over}
@@ -77,7 +77,7 @@ faultless most limit j burst count n fault e =
     closes_none most limit j (burst + p.0) (count + p.0) fault (ends_none p.1 (closes most limit j (burst + p.0) (count + p.0) fault) e)
 
 -- a leaf's first number
-first_at : (parts : List Part) (j : ℕ) (p : Part) → slice_get parts j ≡ Some p → slice_index_or (map (λ (q : Part). q.first.0) parts) j 0 ≡ p.first.0
+pub first_at : (parts : List Part) (j : ℕ) (p : Part) → slice_get parts j ≡ Some p → slice_index_or (map (λ (q : Part). q.first.0) parts) j 0 ≡ p.first.0
 first_at [] j p is = absurd cc
 first_at (q ∷ parts) zero p is = ap (λ (x : Option Part). first_of x) is
 first_at (q ∷ parts) (suc j) p is = first_at parts j p is

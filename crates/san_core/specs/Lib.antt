@@ -1,4 +1,6 @@
 pub mod Nets
 pub mod Committed
 pub mod Machines
+pub mod Redone
+pub mod Whole
 pub mod inner

@@ -11,7 +11,7 @@ use Rattle.san_law.specs.Starts.{IsStart}
 use Rattle.san_leaf.specs.Pieces.{AgreesWith, PieceValue}
 use Rattle.san_leaf.specs.States.{kind_in}
 use Rattle.san_net.specs.Network.{Network}
-use Rattle.san_core.specs.Nets.{event_in, net_at}
+use Rattle.san_net.specs.Runs.{event_in, net_at}
 use Rattle.san_core.specs.Committed.{Belongs, CommittedValue, quiet, with_taken}
 
 -- the run's network, seed and limits; the start; the committed part; the events since the start; how many pieces were taken since then, and for how many more there is room

@@ -3,5 +3,7 @@ pub mod CanTake
 pub mod Held
 pub mod Impulses
 pub mod Kept
+pub mod Needed
 pub mod Steps
+pub mod Stops
 pub mod Suits

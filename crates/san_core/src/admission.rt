@@ -6,6 +6,7 @@ ghost use Rattle.san_law.specs.Admitted.{trap_of};
 ghost use Rattle.san_law.specs.Core.{burst_after};
 ghost use Rattle.san_leaf.specs.Outcomes.{fault_in};
 ghost use Rattle.san_leaf.specs.States.{kind_in};
+ghost use Rattle.san_core.specs.inner.Stops.{TrapsIn};
 ghost use Rattle.san_core.specs.inner.Admits.{admits, admits_rest, admits_settled, closes, over_in, passes};
 
 use crate::over::{Over, events_left, limit_by};
@@ -34,6 +35,7 @@ fn passing(limits: &Limits, burst: u32, count: u64, completions: u32) -> Admissi
     ensures within { result.passed ≤ completions }
     ensures is { (result.passed, option_map over_in result.over)
         ≡ passes limits.now.burst limits.now.events burst count completions }
+    ensures of { (leaf first : ℕ) → IfSome result.over (TrapsIn leaf first) }
 {
     let mut passed = 0;
     'each: while passed < completions {
@@ -52,9 +54,11 @@ fn passing(limits: &Limits, burst: u32, count: u64, completions: u32) -> Admissi
 /// The trap of a fault.
 fn trapped(taking: Taking, fault: Fault) -> Over
     requires { taking.first.0 ≤ fault.act.0 }
-    ensures { Some (over_in result) ≡ trap_of taking.leaf.0 (Some (fault_in taking.first.0 fault)) }
+    ensures is { Some (over_in result) ≡ trap_of taking.leaf.0 (Some (fault_in taking.first.0 fault)) }
+    ensures of { TrapsIn taking.leaf.0 taking.first.0 result }
 {
-    Over::Trapped(taking.leaf, fault.act.0 - taking.first.0, fault.trap)
+    let act = fault.act.0 - taking.first.0;
+    Over::Trapped(taking.leaf, act, fault.act, fault.trap)
 }
 
 /// What a fault comes to; where its activity was picked, the limits come first.
@@ -66,8 +70,9 @@ fn closing(
     fault: Option<Fault>,
 ) -> Option<Over>
     requires { IfSome fault (λ f. taking.first.0 ≤ f.act.0) }
-    ensures { option_map over_in result ≡ closes limits.now.burst limits.now.events taking.leaf.0
+    ensures is { option_map over_in result ≡ closes limits.now.burst limits.now.events taking.leaf.0
         burst count (option_map (fault_in taking.first.0) fault) }
+    ensures of { IfSome result (TrapsIn taking.leaf.0 taking.first.0) }
 {
     let fault = fault?;
     if fault.picked {
@@ -93,6 +98,7 @@ fn settled(
     ensures is { (result.passed, option_map over_in result.over)
         ≡ admits_settled limits.now.burst limits.now.events taking.leaf.0 burst count
         (option_map (fault_in taking.first.0) fault) completions }
+    ensures of { IfSome result.over (TrapsIn taking.leaf.0 taking.first.0) }
 {
     let Admission { passed, over } = passing(limits, burst, count, completions);
     let over = match over {
@@ -119,6 +125,7 @@ fn fired(
     ensures is { (result.passed, option_map over_in result.over)
         ≡ admits_rest limits.now.burst limits.now.events taking.leaf.0 count
         (option_map (fault_in taking.first.0) fault) completions }
+    ensures of { IfSome result.over (TrapsIn taking.leaf.0 taking.first.0) }
 {
     if completions == 0 {
         let over = match fault {
@@ -151,6 +158,7 @@ pub(crate) fn admit(
         ≡ admits limits.now.burst limits.now.events taking.leaf.0 burst count
         (kind_in taking.first.0 taking.kind) (option_map (fault_in taking.first.0) fault)
         completions }
+    ensures of { IfSome result.over (TrapsIn taking.leaf.0 taking.first.0) }
 {
     match taking.kind {
         Kind::Fire(_) => match events_left(limits, count) {

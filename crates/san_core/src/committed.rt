@@ -1,11 +1,12 @@
 //! The committed part of a core, and how it takes a piece.
 
-ghost use Rattle.std.specs.Prelude.{◌≡◌, ◌≤◌, ◌<◌, ◌+◌, ◌^◌, [], ℕ, All, IfSome, None, length, map, slice_index_or, vec_capacity};
+ghost use Rattle.std.specs.Prelude.{◌≡◌, ◌≢◌, ◌≤◌, ◌<◌, ◌+◌, ◌^◌, [], ℕ, All, IfSome, None, Some, length, map, slice_index_or, vec_capacity};
 ghost use Rattle.std.specs.Option.{option_map};
 ghost use Rattle.san_base.specs.declared.limits.TheConstants.{MAX_ACTS, MAX_IMPULSES};
 ghost use Rattle.san_base.specs.declared.piece.Kind.TheVariants.{Refresh};
 ghost use Rattle.san_law.specs.Core.{burst_after};
 ghost use Rattle.san_law.specs.Network as network;
+ghost use Rattle.san_law.specs.Step.{End};
 ghost use Rattle.san_leaf.specs.Outcomes.{fault_in, outcome_in};
 ghost use Rattle.san_leaf.specs.States.{kind_in};
 ghost use Rattle.san_net.specs.Network.{net_of};
@@ -13,18 +14,21 @@ ghost use Rattle.san_reward.specs.Running.{advanced, with_impulses};
 ghost use Rattle.san_turn.specs.Reflected.{Reflects};
 ghost use Rattle.san_core.specs.inner.Admits.{admits, over_in};
 ghost use Rattle.san_core.specs.inner.Impulses.{impulses_from};
+ghost use Rattle.san_core.specs.inner.Needed.{need_given};
+ghost use Rattle.san_core.specs.inner.Stops.{TrapsIn, stopped_by};
 ghost use Rattle.san_core.specs.inner.Steps.{counted_in, ended_by, halted, put_in};
 
 use crate::admission::{Admission, Taking, admit, burst_after};
 use crate::impulses::count_impulses;
 use crate::news::reflect;
 use crate::over::{Halt, Over};
+use crate::start::Start;
 use crate::writing::write_all;
-use san_base::{Kind, Limits, Shared, Tick};
+use san_base::{Ending, Kind, Limits, PlaceId, Shared, Tick};
 use san_leaf::{Impulse, LeafState, Outcome};
 use san_net::Flat;
 use san_reward::Tally;
-use san_turn::{Order, Taken};
+use san_turn::{Need, Order, Taken};
 use std::marker::Model;
 
 /// The leaves' states, the values of the shared places, the order of needs, the tally, the burst,
@@ -43,11 +47,14 @@ pub(crate) struct Committed {
 impl Model for Committed {
     ghost use Rattle.san_core.specs.Committed.{CommittedValue};
     ghost use Rattle.san_core.specs.inner.Held.{committed_by};
+    ghost use Rattle.san_core.specs.inner.Stops.{HaltIsNamed};
 
     ghost Value = { CommittedValue };
 
     ghost view = { λ c. committed_by c.leaves.items c.shared.items c.order c.tally c.burst c.count
         c.halt };
+
+    ghost invariant = { λ c. HaltIsNamed c.order.firsts c.halt };
 }
 
 /// Counts the present rates up to a piece's time, and then the impulses of its first events.
@@ -70,6 +77,63 @@ impl Committed {
         let _ = self.burst();
     }
 
+    /// When and how it stopped, where it has.
+    pub(crate) fn stopped(&self) -> Option<Ending>
+        ensures { result ≡ stopped_by self.now.firsts self.now.core.order.time self.now.core.stop }
+    {
+        match &self.halt {
+            Some(halt) => Some(halt.ending()),
+            None => None,
+        }
+    }
+
+    /// No stop is the end at the horizon.
+    pub(crate) fn has_a_stop_before_the_end(&self)
+        ensures { self.now.core.stop ≢ Some End }
+    {
+        let _ = &self.halt;
+    }
+
+    /// What the order needs next; nothing where the core has stopped.
+    pub(crate) fn need(&self) -> Need
+        ensures { result ≡ need_given self.now.firsts self.now.horizon self.now.core.order
+            self.now.core.stop }
+    {
+        match self.halt {
+            Some(_) => Need::End,
+            None => self.order.need(),
+        }
+    }
+
+    /// The time of the order, where the core goes on.
+    pub(crate) fn time(&self) -> Tick
+        ensures { self.now.core.stop ≡ None → result.0 ≡ self.now.core.order.time }
+    {
+        self.order.time()
+    }
+
+    /// The start from which a core goes on that hasn't stopped.
+    pub(crate) fn into_start(self) -> Start
+        requires { self.core.stop ≡ None }
+        ensures { result ≡ self }
+    {
+        Start {
+            states: self.leaves,
+            shared: self.shared,
+            order: self.order,
+            tally: self.tally,
+            burst: self.burst,
+            events: self.count,
+        }
+    }
+
+    /// The tally alone.
+    pub(crate) fn into_tally(self) -> Tally
+        ensures { result ≡ self.running }
+    {
+        self.tally
+    }
+
     /// The instantaneous completions since the last timed one.
     fn burst(&self) -> u32
         ensures { result ≡ self.now.core.burst }
@@ -88,6 +152,7 @@ impl Committed {
             self.now.core.count (kind_in taking.first.0 taking.kind)
             (option_map (fault_in taking.first.0) outcome.now.fault)
             (length outcome.now.events.items) }
+        ensures of { IfSome result.over (TrapsIn taking.leaf.0 taking.first.0) }
     {
         let completions = outcome.events.len() as u32;
         admit(
@@ -130,8 +195,14 @@ impl Committed {
         self.count += u64::from(admission.passed);
     }
 
-    /// Puts the piece's state, values and order in the place of what was there.
-    fn put(&mut self, flat: &Flat, taking: Taking, outcome: Outcome, news: &Taken)
+    /// Puts the piece's state, values and order in the place of what was there; what it wrote.
+    fn put(
+        &mut self,
+        flat: &Flat,
+        taking: Taking,
+        outcome: Outcome,
+        news: &Taken,
+    ) -> Vec<(PlaceId, u32)>
         requires going { self.old.core.stop ≡ None }
         requires order { self.old.firsts ≡ map (λ p. p.first.0) flat.now.parts }
         requires leaf { taking.leaf.0 < length flat.now.parts }
@@ -142,17 +213,22 @@ impl Committed {
         requires reflected { Reflects taking.first.0 (outcome_in taking.first.0 outcome) news.now }
         requires kind { news.now.kind ≡ taking.kind }
         requires time { news.now.time ≡ taking.time }
-        ensures { (draw : ℕ → ℕ → ℕ) (limits : network.Limits) → self.new
+        ensures taken { (draw : ℕ → ℕ → ℕ) (limits : network.Limits) → self.new
             ≡ put_in (net_of flat.now draw limits) self.old taking (outcome_in taking.first.0
             outcome) }
+        ensures written { result.items ≡ outcome.writes.items }
     {
         self.order.took(flat, taking.leaf, news);
         write_all(&outcome.writes, &mut self.shared);
-        self.leaves[taking.leaf.0 as usize] = outcome.state;
+        let Outcome { writes, state, .. } = outcome;
+        self.leaves[taking.leaf.0 as usize] = state;
+        writes
     }
 
     /// Stops at the piece's time.
     fn halt(&mut self, taking: Taking, over: Over)
+        requires first { slice_index_or self.old.firsts taking.leaf.0 0 ≡ taking.first.0 }
+        requires of { TrapsIn taking.leaf.0 taking.first.0 over }
         ensures { self.new ≡ halted self.old taking.time.0 (over_in over) }
     {
         self.halt = Some(Halt {
@@ -161,7 +237,7 @@ impl Committed {
         });
     }
 
-    /// Takes what was let through, and then stops, or takes what the piece made.
+    /// Takes what was let through, and then stops, or takes what the piece made; what it wrote.
     pub(crate) fn take(
         &mut self,
         flat: &Flat,
@@ -169,7 +245,7 @@ impl Committed {
         admission: Admission,
         outcome: Outcome,
         news: &mut Taken,
-    )
+    ) -> Vec<(PlaceId, u32)>
         requires count { self.old.core.count + admission.passed < 2 ^ 64 }
         requires burst { burst_after (kind_in 0 taking.kind) self.old.core.burst admission.passed
             < 2 ^ 32 }
@@ -191,17 +267,23 @@ impl Committed {
         requires first { slice_index_or self.old.firsts taking.leaf.0 0 ≡ taking.first.0 }
         requires numbers { taking.first.0 ≤ MAX_ACTS }
         requires row { length outcome.state.row.timers ≤ MAX_ACTS }
+        requires of { IfSome admission.over (TrapsIn taking.leaf.0 taking.first.0) }
         requires places { All (λ w. w.0.0 < length self.old.core.shared) outcome.writes.items }
         requires writes { length outcome.writes.items ≤ vec_capacity news.old.written }
         ensures taken { (draw : ℕ → ℕ → ℕ) (limits : network.Limits) → self.new
             ≡ ended_by (net_of flat.now draw limits) (counted_in self.old taking admission outcome)
             taking (outcome_in taking.first.0 outcome) admission.over }
+        ensures written { result.items ≡ outcome.writes.items }
         ensures room { vec_capacity news.old.written ≤ vec_capacity news.new.written }
     {
         reflect(news, taking, &outcome);
         self.count(taking, admission, &outcome);
         match admission.over {
-            Some(over) => self.halt(taking, over),
+            Some(over) => {
+                self.halt(taking, over);
+                let Outcome { writes, .. } = outcome;
+                writes
+            }
             None => self.put(flat, taking, outcome, news),
         }
     }

@@ -3,14 +3,23 @@
 
 mod admission;
 mod committed;
-mod due;
+mod committed_view;
+mod ending;
 mod impulses;
 mod machine;
+mod maker;
+mod needed;
 mod news;
+mod order;
 mod over;
+mod redoing;
+mod rest;
 mod start;
 mod taking;
 mod writing;
 
 pub use machine::Machine;
+pub use order::{Ran, run_order};
+pub use redoing::Redoing;
+pub use rest::Rest;
 pub use start::Start;

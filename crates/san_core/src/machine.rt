@@ -1,17 +1,19 @@
 //! A machine that takes the pieces of a run, one after another.
 
-ghost use Rattle.std.specs.Prelude.{◌≡◌, ◌≤◌, ◌<◌, IfOk, OnErr, OnOk, max, vec_capacity};
+ghost use Rattle.std.specs.Prelude.{◌≡◌, ◌≤◌, ◌<◌, IfOk, OnErr, OnOk, map, max, vec_capacity};
+ghost use Rattle.san_leaf.specs.States.{pair_in};
 ghost use Rattle.san_base.specs.Limits.{IsInRange};
 ghost use Rattle.san_base.specs.declared.limits.TheConstants.{MAX_CELLS};
 ghost use Rattle.san_law.specs.Left.{left};
 ghost use Rattle.san_core.specs.Committed.{StartsRun};
 ghost use Rattle.san_core.specs.Machines.{FollowsRun, IsNeeded, after_taking, core_in, net_in, opened};
-ghost use Rattle.san_core.specs.Nets.{net_at};
+ghost use Rattle.san_net.specs.Runs.{net_at};
 
 use crate::committed::Committed;
+use crate::maker::Maker;
 use crate::start::Start;
 use crate::taking::take_piece;
-use san_base::{Event, Kind, Limits, MAX_CELLS, NoMemory, Shared, Tick};
+use san_base::{Event, Kind, Limits, MAX_CELLS, NoMemory, PlaceId, Shared, Tick};
 use san_leaf::Piece;
 use san_net::Flat;
 use san_reward::Tally;
@@ -26,15 +28,16 @@ const MAX_PIECE: usize = 64;
 /// the run's, whoever made the pieces.
 #[derive(Drop)]
 pub struct Machine {
-    flat: Shared<Flat>,
-    seed: u64,
-    limits: Limits,
-    start: Start,
-    held: Committed,
-    events: Vec<Event>,
-    taken: u64,
-    spare: u32,
-    news: Taken,
+    pub(crate) flat: Shared<Flat>,
+    pub(crate) seed: u64,
+    pub(crate) limits: Limits,
+    pub(crate) start: Start,
+    pub(crate) held: Committed,
+    pub(crate) events: Vec<Event>,
+    pub(crate) taken: u64,
+    pub(crate) spare: u32,
+    pub(crate) news: Taken,
+    pub(crate) maker: Maker,
 }
 
 impl Model for Machine {
@@ -53,7 +56,7 @@ impl Model for Machine {
 
     ghost invariant = { λ m. IsMachine (machine_by m.flat m.seed m.limits m.start m.held
         m.events.items m.taken m.spare) (vec_len m.events) (vec_capacity m.events)
-        (vec_capacity m.news.written) };
+        (vec_capacity m.news.written) m.maker };
 }
 
 /// What an order has to know of a piece, with room for the places of any piece.
@@ -84,6 +87,7 @@ impl Machine {
     {
         let held = start.copy(alloc)?.committed();
         let news = no_news(alloc)?;
+        let maker = Maker::open(alloc, flat.get(), seed)?;
         Ok(Machine {
             flat,
             seed,
@@ -94,6 +98,7 @@ impl Machine {
             taken: 0,
             spare: 0,
             news,
+            maker,
         })
     }
 
@@ -112,17 +117,20 @@ impl Machine {
     }
 
     /// Takes the piece that is needed next, made from the committed state of its leaf and the
-    /// committed values that it has read.
-    pub fn take(&mut self, piece: Piece)
+    /// committed values that it has read; the places that it wrote, with their last values.
+    pub fn take(&mut self, piece: Piece) -> Vec<(PlaceId, u32)>
         requires spare { 1 ≤ self.old.spare }
         requires needed { IsNeeded self.old piece }
         ensures taken { self.new ≡ after_taking self.old piece }
+        ensures written { map pair_in result.items ≡ piece.outcome.writes }
         ensures less { left (net_in self.new) (core_in self.new)
             < left (net_in self.old) (core_in self.old) }
     {
         self.flat.get().is_network();
         piece.is_sound();
         piece.fits();
+        self.taken += 1;
+        self.spare -= 1;
         take_piece(
             self.flat.get(),
             &self.limits,
@@ -130,9 +138,7 @@ impl Machine {
             &mut self.events,
             &mut self.news,
             piece,
-        );
-        self.taken += 1;
-        self.spare -= 1;
+        )
     }
 
     /// A machine follows the run: its start is one of the run's, and its committed part and its

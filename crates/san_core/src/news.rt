@@ -10,9 +10,8 @@ ghost use Rattle.san_turn.specs.Changes.{local_due};
 ghost use Rattle.san_turn.specs.Reflected.{Reflects};
 
 use crate::admission::Taking;
-use crate::due::least_of;
 use san_base::{ActId, MAX_ACTS, PlaceId, Tick};
-use san_clock::Row;
+use san_clock::{Row, least_of};
 use san_leaf::Outcome;
 use san_turn::Taken;
 

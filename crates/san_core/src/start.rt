@@ -9,7 +9,7 @@ ghost use Rattle.san_leaf.specs.Pieces.{opened_state};
 ghost use Rattle.san_net.specs.Network.{net_of};
 ghost use Rattle.san_reward.specs.Running.{no_rates};
 ghost use Rattle.san_core.specs.Committed.{StartsRun};
-ghost use Rattle.san_core.specs.Nets.{net_at};
+ghost use Rattle.san_net.specs.Runs.{net_at};
 
 use crate::committed::Committed;
 use san_base::{LeafId, Limits, NoMemory, Shared};

@@ -10,7 +10,7 @@ use Rattle.san_core.specs.declared.over.Over.TheVariants as over
 abbrev pub over_in : Over → Ending
 over_in over.Unstable = Unstable
 over_in over.Events = Events
-over_in (over.Trapped leaf act trap) = Trapped leaf.0 act trap
+over_in (over.Trapped leaf act number trap) = Trapped leaf.0 act trap
 
 -- so many, and the ending that stops them
 abbrev pub passes_by : Option Ending → ℕ × Option Ending → ℕ × Option Ending

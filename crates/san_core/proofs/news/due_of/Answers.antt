@@ -1,5 +1,5 @@
 use Rattle.std.proofs.Common.{arith, sym, ◌∙◌}
-use Rattle.san_core.proofs.Dues.{least_within}
+use Rattle.san_clock.proofs.DueLemmas.{least_within}
 use Rattle.san_core.proofs.news.due_of.Goals as goal
 
 pub overflow_add-result : goal.overflow_add-result

@@ -1,8 +1,11 @@
-use Rattle.std.proofs.Common.{◌∙◌, ◌++◌, ap, arith, List, length}
+use Rattle.std.proofs.Common.{◌∙◌, ◌++◌, ℕ, ap, arith, List, length, map}
+use Rattle.san_base.specs.declared.numbers.PlaceId.{PlaceId}
+use Rattle.san_law.specs.Piece.{Outcome}
+use Rattle.san_leaf.specs.States.{pair_in}
 use Rattle.san_base.specs.declared.ending.Event.{Event}
 use Rattle.std.specs.Prelude.{take}
 use Rattle.std.proofs.lemmas.Option.{slice_get_within}
-use Rattle.san_core.specs.Nets.{net_at, limits_in}
+use Rattle.san_net.specs.Runs.{limits_in, net_at}
 use Rattle.san_draw.specs.Key.{draw_of}
 use Rattle.san_core.proofs.TakePieces as takes
 use Rattle.san_core.proofs.taking.take_piece.Goals as goal
@@ -48,3 +51,6 @@ returns-clause-events c = c.append.ensures.appended ∙ ap (λ (es : List Event)
 
 pub returns-clause-len : goal.returns-clause-len
 returns-clause-len c = omega (arith, c.append.ensures.len, takes.within (net_at c.args.flat.now c.args.piece.seed c.args.limits.now) c.args.flat.now c.args.held.now c.args.piece c.requires.can c.get-part.result.now c.kind.result c.time.result c.into_outcome-outcome.result (c.get-part.ensures ∙ c.part.ensures) c.kind.ensures c.time.ensures c.into_outcome-outcome.ensures.same c.into_outcome-outcome.ensures.numbered c.admit-admission.result.passed c.admit-admission.result.over c.admit-admission.ensures.is, takes.events_few (net_at c.args.flat.now c.args.piece.seed c.args.limits.now) c.args.flat.now c.args.held.now c.args.piece c.requires.can c.get-part.result.now c.kind.result c.time.result c.into_outcome-outcome.result (c.get-part.ensures ∙ c.part.ensures) c.kind.ensures c.time.ensures c.into_outcome-outcome.ensures.same c.into_outcome-outcome.ensures.numbered)
+
+pub returns-clause-written : goal.returns-clause-written
+returns-clause-written c = ap (λ (ws : List (PlaceId × ℕ)). map pair_in ws) c.take.ensures.written ∙ ap (λ (o : Outcome). o.writes) c.into_outcome-outcome.ensures.same

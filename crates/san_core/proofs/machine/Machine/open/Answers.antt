@@ -1,4 +1,7 @@
-use Rattle.std.proofs.Common.{arith, sym, subst, ◌∙◌, [], List}
+use Rattle.std.proofs.Common.{arith, ap, sym, subst, ◌∙◌, ◌*◌, [], List}
+use Rattle.san_draw.specs.Streams.{Seeded}
+use Rattle.san_net.specs.Laid.{acts_of}
+use Rattle.san_net.specs.Network.{Network}
 use Rattle.san_base.specs.declared.ending.Event.{Event}
 use Rattle.san_core.specs.Committed.{CommittedValue}
 use Rattle.san_core.specs.Machines.{FollowsRun, machine_by}
@@ -14,4 +17,6 @@ invariant_of-result c = record {
   spare = omega (arith, c.new.ensures.len);
   few = omega arith;
   places_kept = c.in_ok-news.ensures;
+  seed = ap (λ (x : Seeded). x.seed) c.in_ok-maker.ensures;
+  streams = ap (λ (x : Seeded). x.streams) c.in_ok-maker.ensures ∙ ap (λ (n : Network). 2 * acts_of n.parts) c.get.ensures;
 }

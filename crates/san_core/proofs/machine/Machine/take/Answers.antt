@@ -22,6 +22,8 @@ invariant_of-self c =
       spare = omega (arith, c.self.invariant.spare, c.self.invariant.few, c.take_piece.ensures.len, c.take_piece.ensures.room, c.requires.spare, ap (λ (x : MachineValue). x.spare) c.self.view_is);
       few = omega (arith, c.self.invariant.few);
       places_kept = omega (arith, c.self.invariant.places_kept, c.take_piece.ensures.news);
+      seed = c.self.invariant.seed;
+      streams = c.self.invariant.streams;
     }
 
 pub returns-clause-less : goal.returns-clause-less

@@ -1,6 +1,6 @@
 use Rattle.std.proofs.Common.{refl}
 use Rattle.san_draw.specs.Key.{draw_of}
-use Rattle.san_core.specs.Nets.{limits_in}
+use Rattle.san_net.specs.Runs.{limits_in}
 use Rattle.san_core.proofs.Opening as opening
 use Rattle.san_core.proofs.start.Start.first.Goals as goal
 
