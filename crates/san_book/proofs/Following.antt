@@ -22,13 +22,13 @@ use Rattle.san_book.proofs.Replaying.{every_run}
 use Rattle.san_book.proofs.Subject.{net_is_lawful}
 
 -- a shared place of a leaf
-abbrev IsShared : ℕ → List Slot → Type 0
+abbrev pub IsShared : ℕ → List Slot → Type 0
 IsShared q [] = ⊥
 IsShared q (Private p ∷ ss) = IsShared q ss
 IsShared q (Shared r ∷ ss) = (q ≡ r) ⊎ IsShared q ss
 
 -- the values that a log tells
-value_from : (a n i : ℕ) (es : List Entry) → i < n → slice_index (values_from a n es) i ≡ or_zero (find (a + i) es)
+pub value_from : (a n i : ℕ) (es : List Entry) → i < n → slice_index (values_from a n es) i ≡ or_zero (find (a + i) es)
 value_from a zero i es h = absurd (omega (arith, h))
 value_from a (suc n) zero es h = ap (λ (q : ℕ). or_zero (find q es)) (zero_more a)
   where
@@ -54,7 +54,7 @@ view_by (Shared q ∷ ss) values a b f = ap (λ (v : ℕ). v ∷ leaf_view ss va
 view_by (Private p ∷ ss) [] a b f = ap (λ (vs : List ℕ). 0 ∷ vs) (view_by ss [] a b f)
 view_by (Private p ∷ ss) (v ∷ values) a b f = ap (λ (vs : List ℕ). v ∷ vs) (view_by ss values a b f)
 
-shared_below : (n : ℕ) (others : ℕ → Type 0) (ss : List Slot) (q : ℕ) → lawful.AllApart n others ss → IsShared q ss → q < n
+pub shared_below : (n : ℕ) (others : ℕ → Type 0) (ss : List Slot) (q : ℕ) → lawful.AllApart n others ss → IsShared q ss → q < n
 shared_below n others [] q a h = absurd h
 shared_below n others (Private p ∷ ss) q a h = shared_below n others ss q a.2 h
 shared_below n others (Shared r ∷ ss) q a (inl e) = let l = a.0 in omega (arith, l, e)

@@ -31,7 +31,7 @@ bool_is true b h = sym h
 bool_is false true h = h
 bool_is false false h = refl
 
-list_is : {X : Type 0} (test : X → X → Bool) → ((x y : X) → test x y ≡ true → x ≡ y) → (xs ys : List X) → same_list test xs ys ≡ true → xs ≡ ys
+pub list_is : {X : Type 0} (test : X → X → Bool) → ((x y : X) → test x y ≡ true → x ≡ y) → (xs ys : List X) → same_list test xs ys ≡ true → xs ≡ ys
 list_is test f [] [] h = refl
 list_is test f [] (y ∷ ys) h = absurd (true≢false (sym h))
 list_is test f (x ∷ xs) [] h = absurd (true≢false (sym h))
@@ -66,7 +66,7 @@ bool_itself : (b : Bool) → same_bool b b ≡ true
 bool_itself true = refl
 bool_itself false = refl
 
-list_itself : {X : Type 0} (test : X → X → Bool) → ((x : X) → test x x ≡ true) → (xs : List X) → same_list test xs xs ≡ true
+pub list_itself : {X : Type 0} (test : X → X → Bool) → ((x : X) → test x x ≡ true) → (xs : List X) → same_list test xs xs ≡ true
 list_itself test f [] = refl
 list_itself test f (x ∷ xs) = and_true (test x x) (same_list test xs xs) (f x) (list_itself test f xs)
 
@@ -116,7 +116,7 @@ module _ (net : Net) (places : ℕ) (laid : IsLaid net places) where
   renewed_fits j base values (Faulty k trap) = tt
   renewed_fits j base values (Fresh r) = tt
 
-  piece_fits : (j : ℕ) (kind : Kind) (time : ℕ) (base : LeafState) (shared : List ℕ) → AreWrites net.shared (piece_of net j kind time base shared).writes
+  pub piece_fits : (j : ℕ) (kind : Kind) (time : ℕ) (base : LeafState) (shared : List ℕ) → AreWrites net.shared (piece_of net j kind time base shared).writes
   piece_fits j Settle time base shared = part_fits j (settle net j 64 (sees net j base shared)).sets (settle net j 64 (sees net j base shared)).left.values
   piece_fits j (Fire k) time base shared = fired_fits j k base (net.done j k (dropped net (sees net j base shared) k))
   piece_fits j Refresh time base shared = renewed_fits j base (leaf_view (part_of net j) base.values shared) (net.renewed j time base.seen (sees net j base shared))
@@ -138,17 +138,17 @@ taken_by Q net c j Refresh time o s b r = admitted_by Q net c time Refresh (admi
 pub shared_long : (net : Net) (c : law.Core) (j : ℕ) (kind : Kind) (time : ℕ) (o : Outcome) → length (law.taken net c j kind time o).shared ≡ length c.shared
 shared_long net c j kind time o = taken_by (λ d. length d.shared ≡ length c.shared) net c j kind time o (λ burst es e. refl) (λ burst count es. length_put o.writes c.shared) refl
 
-leaves_long : (net : Net) (c : law.Core) (j : ℕ) (kind : Kind) (time : ℕ) (o : Outcome) → length (law.taken net c j kind time o).leaves ≡ length c.leaves
+pub leaves_long : (net : Net) (c : law.Core) (j : ℕ) (kind : Kind) (time : ℕ) (o : Outcome) → length (law.taken net c j kind time o).leaves ≡ length c.leaves
 leaves_long net c j kind time o = taken_by (λ d. length d.leaves ≡ length c.leaves) net c j kind time o (λ burst es e. refl) (λ burst count es. length-set c.leaves j o.state) (length-set c.leaves j o.state)
 
-events_more : (net : Net) (c : law.Core) (j : ℕ) (kind : Kind) (time : ℕ) (o : Outcome) → (es : List Event) × ((law.taken net c j kind time o).events ≡ c.events ++ es)
+pub events_more : (net : Net) (c : law.Core) (j : ℕ) (kind : Kind) (time : ℕ) (o : Outcome) → (es : List Event) × ((law.taken net c j kind time o).events ≡ c.events ++ es)
 events_more net c j kind time o = taken_by (λ d. (es : List Event) × (d.events ≡ c.events ++ es)) net c j kind time o (λ burst es e. (es, refl)) (λ burst count es. (es, refl)) ([], sym (append-nil c.events))
 
-not_stopped : (o : Option Ending) → is_there o ≡ false → o ≡ None
+pub not_stopped : (o : Option Ending) → is_there o ≡ false → o ≡ None
 not_stopped None h = refl
 not_stopped (Some e) h = absurd (true≢false h)
 
-unwritten : (q : ℕ) (ws : List (ℕ × ℕ)) → write_of q ws ≡ None → All (λ w. w.0 ≢ q) ws
+pub unwritten : (q : ℕ) (ws : List (ℕ × ℕ)) → write_of q ws ≡ None → All (λ w. w.0 ≢ q) ws
 unwritten q [] h k d l = absurd (omega (arith, l))
 unwritten q (w ∷ ws) h zero d l = λ e. some_none (sym (ap (λ t. either t (Some w.1) (write_of q ws)) (eq-eqb w.0 q e)) ∙ h)
   where
@@ -164,7 +164,7 @@ unwritten q (w ∷ ws) h (suc k) d l = unwritten q ws (rest (nat_eq w.0 q) h) k 
 entry_is : (e : Entry) (q v : ℕ) → e.0.0 ≡ q → e.1 ≡ v → e ≡ (record { 0 = q }, v)
 entry_is e q v a b = ap (λ (n : ℕ). (record { 0 = n }, e.1)) a ∙ ap (λ (n : ℕ). (record { 0 = q }, n)) b
 
-value_of : (shared : List ℕ) (q v : ℕ) → slice_get shared q ≡ Some v → v ≡ slice_index shared q
+pub value_of : (shared : List ℕ) (q v : ℕ) → slice_get shared q ≡ Some v → v ≡ slice_index shared q
 value_of [] q v h = absurd (cc)
 value_of (x ∷ xs) zero v h = cc
 value_of (x ∷ xs) (suc q) v h = value_of xs q v h
@@ -184,7 +184,7 @@ logged_is : (qs : List ℕ) (shared : List ℕ) → is_logged qs (logged qs shar
 logged_is [] shared = refl
 logged_is (q ∷ qs) shared = ap (λ b. b && is_logged qs (logged qs shared)) (number_itself q) ∙ logged_is qs shared
 
-there : (shared : List ℕ) (q : ℕ) → q < length shared → is_value (slice_index shared q) (slice_get shared q) ≡ true
+pub there : (shared : List ℕ) (q : ℕ) → q < length shared → is_value (slice_index shared q) (slice_get shared q) ≡ true
 there [] q h = absurd (omega (arith, h))
 there (x ∷ xs) zero h = number_itself x
 there (x ∷ xs) (suc q) h = there xs q (omega (arith, h))
