@@ -1,0 +1,9 @@
+//! What is made ahead of the committed time: how the versions of the shared places follow the pieces
+//! of the leaves.
+#![tactic(auto)]
+
+mod chains;
+mod lines;
+
+pub use chains::{current_pieces, cut_chain, push_piece};
+pub use lines::{commit_writes, put_writes, reserve_writes, withdraw_writes};
