@@ -1,6 +1,7 @@
 //! Which model is generated, and of how many copies.
 
-ghost use Rattle.std.specs.Prelude.{◌≡◌, ◌≤◌, IfOk};
+ghost use Rattle.std.specs.Prelude.{◌≡◌, ◌≤◌, IfOk, length};
+ghost use Rattle.san_base.specs.declared.limits.TheConstants.{MAX_MODEL_BYTES};
 ghost use Rattle.san_gen.specs.Texts.{model_text};
 ghost use Rattle.san_gen.specs.declared.model.TheConstants.{MAX_COPIES, MIN_COPIES};
 
@@ -25,11 +26,13 @@ pub enum ModelKind {
 }
 
 /// The text of a model of so many copies, in version 1 of the language, each line ended by a line
-/// feed.
+/// feed. It isn't longer than a model text may be.
+#[tactic(auto, using(crate::proofs::LengthLemmas::short_farm, crate::proofs::LengthLemmas::short_ring))]
 pub fn model_of(alloc: Global, copies: u32, kind: ModelKind) -> Result<Vec<u8>, NoMemory>
     requires least { MIN_COPIES ≤ copies }
     requires most { copies ≤ MAX_COPIES }
-    ensures { IfOk result (λ text. text.items ≡ model_text kind copies) }
+    ensures text { IfOk result (λ text. text.items ≡ model_text kind copies) }
+    ensures short { IfOk result (λ text. length text.items ≤ MAX_MODEL_BYTES) }
 {
     match kind {
         ModelKind::Farm => farm_text(alloc, copies),

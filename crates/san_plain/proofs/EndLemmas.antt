@@ -25,7 +25,7 @@ use Rattle.san_reward.proofs.Sameness.{worth_same}
 use Rattle.san_report.specs.Closings.{closing, worths_by}
 use Rattle.san_plain.specs.inner.Progress.{Ends, IsOver, Stands, left_after}
 use Rattle.san_report.specs.Pages.{Sent}
-use Rattle.san_plain.specs.Reports.{Opened, net_by, report_of, worth_at}
+use Rattle.san_plain.specs.Reports.{Opened, net_by, worth_at}
 use Rattle.san_plain.specs.declared.counted.CountedRun.{CountedRun}
 use Rattle.san_plain.proofs.NumberLemmas.{act_below}
 use Rattle.san_plain.proofs.ReportLemmas.{lines_last, outcome_is, rewards_like}
@@ -35,8 +35,8 @@ use Rattle.san_law.specs.Trajectory.{trajectory}
 use Rattle.san_seq.proofs.PublicAnswers.{stop_answered, end_answered}
 use Rattle.san_seq.proofs.RunLemmas.{same_ending}
 use Rattle.san_seq.specs.FlatRun.{Run, step_of}
-use Rattle.san_seq.specs.Overs.{limits_in}
-use Rattle.san_seq.specs.Outcomes.{ending_in, stepped_of, event_or_ending}
+use Rattle.san_net.specs.Runs.{ending_in, limits_in}
+use Rattle.san_seq.specs.Outcomes.{stepped_of, event_or_ending}
 use Rattle.san_seq.specs.declared.steps.Stepped.TheVariants as stepped
 
 -- the law's ending of a step
@@ -85,19 +85,19 @@ module _ (o : Opened) (es : List law.Event) (s : State) (c : CountedRun) (st : S
       ∙ (ap (λ (xs : List ℕ). ending_line n (length es) e ++ xs) (rewards_like n.rewards 0 (worth_at net es why) (worths_by c.account.running e) (λ q l h. worths_are time why q (omega (arith, h))))
       ∙ (ap (λ (k : ℕ). closing n c.account.running k e) (sym st.many) ∙ ap (λ (m : Network). closing m c.account.running c.count e) (sym st.of_network)))
 
-  over : (first now : Option (List ℕ)) (page : List ℕ) (time : ℕ) (why : law.Ending) → (law.step net s).0 ≡ law.Over time why → Sent first now page (report_of o) (left_after o es (trajectory net s)) → IsOver o first now c page (ending_in o.network time why)
-  over first now page time why is sent = record {
+  over : (text : List ℕ) (first now : Option (List ℕ)) (page : List ℕ) (time : ℕ) (why : law.Ending) → (law.step net s).0 ≡ law.Over time why → Sent first now page text (left_after o es (trajectory net s)) → IsOver o text first now c page (ending_in o.network time why)
+  over text first now page time why is sent = record {
     outcome = outcome_is o es s time why st.runs is;
     within = subst (λ (n : Network). EndsIn n (ending_in o.network time why)) (sym st.of_network) (ends_in time why (end_is time why is));
     spans = many_spans ∙ ap (λ (n : Network). length n.rewards) (sym st.of_network);
-    put = subst (λ (xs : List ℕ). Sent first now page (report_of o) xs) (closing_is time why is) sent;
+    put = subst (λ (xs : List ℕ). Sent first now page text xs) (closing_is time why is) sent;
   }
 
   -- a run is over by its last step
-  pub is_over : (first now : Option (List ℕ)) (page : List ℕ) (e : Ending) (new : CountedRun) → Ends o s e c new → Sent first now page (report_of o) (left_after o es (trajectory net s)) → IsOver o first now new page e
-  is_over first now page e new ends sent = subst (λ (k : CountedRun). IsOver o first now k page e) (sym ends.kept) (moved (subst (IsOver o first now c page) ends.ending_is (over first now page ends.time ends.why ends.over sent)))
+  pub is_over : (text : List ℕ) (first now : Option (List ℕ)) (page : List ℕ) (e : Ending) (new : CountedRun) → Ends o s e c new → Sent first now page text (left_after o es (trajectory net s)) → IsOver o text first now new page e
+  is_over text first now page e new ends sent = subst (λ (k : CountedRun). IsOver o text first now k page e) (sym ends.kept) (moved (subst (IsOver o text first now c page) ends.ending_is (over text first now page ends.time ends.why ends.over sent)))
     where
-      moved : IsOver o first now c page e → IsOver o first now (record c { seq = new.seq }) page e
+      moved : IsOver o text first now c page e → IsOver o text first now (record c { seq = new.seq }) page e
       moved y = record { outcome = y.outcome; within = y.within; spans = y.spans; put = y.put }
 
   ends_by : (e : Ending) (new : CountedRun) → (step_of c.seq).0 ≡ Err e → new ≡ record c { seq = new.seq } → Ends o s e c new

@@ -11,5 +11,6 @@ pub mod RateLemmas
 pub mod RatedLemmas
 pub mod ReportLemmas
 pub mod StepLemmas
+pub mod SummaryLemmas
 pub mod TurnLemmas
 pub mod WorthLemmas

@@ -17,7 +17,7 @@ use Rattle.san_plain.specs.inner.Progress.{Ends, IsOpened, Stands, opened_by}
 use Rattle.san_plain.proofs.EndLemmas.{many_spans, worths_are}
 use Rattle.san_plain.proofs.OpenedLemmas.{stands}
 use Rattle.san_plain.proofs.ReportLemmas.{ends_at}
-use Rattle.san_seq.specs.Outcomes.{ending_in}
+use Rattle.san_net.specs.Runs.{ending_in}
 
 -- one worth more
 worth_next : (xs : List Reward) (i r : ℕ) (w : ℕ → Option Worth) → i < length xs → worths_from (take (suc i) xs) r w ≡ worths_from (take i xs) r w ++ w (r + i) ∷ []

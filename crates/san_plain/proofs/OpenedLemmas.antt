@@ -14,7 +14,7 @@ use Rattle.san_plain.specs.declared.counted.CountedRun.{CountedRun}
 use Rattle.san_plain.specs.declared.run.RunInProgress.{RunInProgress}
 use Rattle.san_plain.proofs.CountLemmas.{opened_counts, opened_is}
 use Rattle.san_plain.proofs.ReportLemmas.{whole_left}
-use Rattle.san_seq.specs.Overs.{limits_in}
+use Rattle.san_net.specs.Runs.{limits_in}
 
 module _ (o : Opened) where
   abbrev start : State

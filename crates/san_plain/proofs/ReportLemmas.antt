@@ -12,7 +12,7 @@ use Rattle.san_report.specs.Lines.{ending_line, event_line, reward_line, reward_
 use Rattle.san_reward.specs.declared.worth.Worth.{Worth}
 use Rattle.san_plain.specs.inner.Progress.{left_after}
 use Rattle.san_plain.specs.Reports.{Opened, ending_of, event_lines, net_by, report_by, report_of, worth_at}
-use Rattle.san_seq.specs.Outcomes.{ending_in, event_in}
+use Rattle.san_net.specs.Runs.{ending_in, event_in}
 
 -- a step with an event, and the rest of the run
 pub goes_on : (net : Net) (s : State) (e : law.Event) → (law.step net s).0 ≡ law.Happened e → trajectory net s ≡ ran_on e (trajectory net (law.step net s).1)

@@ -26,10 +26,10 @@ use Rattle.san_plain.proofs.NumberLemmas.{act_below, impulses_same, reaches}
 use Rattle.san_plain.proofs.ReportLemmas.{line_first}
 use Rattle.san_plain.proofs.StepLemmas.{Completion, completes, fits_at}
 use Rattle.san_seq.specs.FlatRun.{On, Run, after_step, marking_of, step_of}
-use Rattle.san_seq.specs.Overs.{limits_in}
+use Rattle.san_net.specs.Runs.{event_in, limits_in}
 use Rattle.san_seq.specs.Reaching.{IsInTime, IsTheLaws, impulses_at}
 use Rattle.san_net.specs.Tables.{act_of}
-use Rattle.san_seq.specs.Outcomes.{event_in, stepped_of}
+use Rattle.san_seq.specs.Outcomes.{stepped_of}
 use Rattle.san_seq.specs.declared.steps.Stepped.TheVariants as stepped
 use Rattle.san_seq.proofs.ReachLemmas.{events_are_laws, events_in_time}
 use Rattle.san_seq.proofs.PublicAnswers.{event_answered}

@@ -8,7 +8,7 @@ use Rattle.san_law.specs.Trajectory.{Trajectory, trajectory}
 use Rattle.san_net.specs.Network.{Network}
 use Rattle.san_net.specs.declared.part.Reward.{Reward}
 use Rattle.san_reward.specs.declared.worth.Worth.{Worth}
-use Rattle.san_seq.specs.Outcomes.{ending_in}
+use Rattle.san_net.specs.Runs.{ending_in}
 use Rattle.san_plain.specs.Reports.{Opened, net_by, worth_at}
 
 -- how a run ended, and the worth of each reward, unless it stopped

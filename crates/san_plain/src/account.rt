@@ -28,7 +28,7 @@ pub(crate) struct RewardAccount<'a> {
 impl<'a> Model for RewardAccount<'a> {
     ghost use Rattle.san_net.specs.contracts.part.Part as of_part;
     ghost use Rattle.san_plain.specs.inner.Accounts.{RewardAccount, IsAccount};
-    ghost use Rattle.san_plain.specs.inner.Rated.{AreRated};
+    ghost use Rattle.san_plain.specs.inner.Rated.{ListsRated};
     ghost use Rattle.std.specs.Coded.{codes};
 
     ghost Value = { RewardAccount };
@@ -37,7 +37,7 @@ impl<'a> Model for RewardAccount<'a> {
 
     ghost view = { λ a. record { network = a.flat.now; running = a.tally; marking = a.marking.items } };
 
-    ghost invariant = { λ a. IsAccount (record { network = a.flat.now; running = a.tally; marking = a.marking.items }) × AreRated a.flat.now a.rated };
+    ghost invariant = { λ a. IsAccount (record { network = a.flat.now; running = a.tally; marking = a.marking.items }) × ListsRated a.flat.now a.rated };
 }
 
 impl<'a> RewardAccount<'a> {

@@ -5,7 +5,9 @@ ghost use Rattle.san_base.specs.Limits.{IsInRange};
 ghost use Rattle.san_law.specs.State.{State};
 ghost use Rattle.san_law.specs.Step as law;
 ghost use Rattle.san_plain.specs.Reports.{Opened};
-ghost use Rattle.san_plain.specs.inner.Progress.{IsOpened, IsStanding, Stands, StepsTo, opened_by};
+ghost use Rattle.san_net.specs.Laid.{IsNetwork};
+ghost use Rattle.san_plain.specs.inner.Progress.{IsOpened, IsStanding, RunsOut, Stands, StepsTo};
+ghost use Rattle.san_plain.specs.inner.Progress.{opened_by};
 
 use crate::account::RewardAccount;
 use san_base::{Ending, Event, Limits, NoMemory};
@@ -22,6 +24,14 @@ pub(crate) struct CountedRun<'a> {
     pub(crate) account: RewardAccount<'a>,
     /// The number of events so far.
     pub(crate) count: u64,
+}
+
+/// How a run came out.
+#[derive(Clone, Copy)]
+pub(crate) struct Outcome {
+    /// The last event, with its number.
+    pub(crate) last: Option<(u64, Event)>,
+    pub(crate) ending: Ending,
 }
 
 impl<'a> CountedRun<'a> {
@@ -62,6 +72,22 @@ impl<'a> CountedRun<'a> {
             }
             Stepped::End => Err(Ending::End(self.limits.horizon)),
             Stepped::Stopped(stop) => Err(Ending::Stop(stop)),
+        }
+    }
+
+    /// Runs to the end.
+    pub(crate) fn run_out(&mut self) -> Outcome
+        requires opened { IsOpened self.old }
+        requires known { IsNetwork self.old.flat.now }
+        ensures { RunsOut (opened_by self.old) result self.new }
+    {
+        let mut last = None;
+        'steps: loop {
+            let number = self.count;
+            match self.step() {
+                Ok(event) => last = Some((number, event)),
+                Err(ending) => return Outcome { last, ending },
+            }
         }
     }
 }

@@ -3,7 +3,7 @@
 ghost use Rattle.std.specs.Prelude.{◌≡◌, ◌<◌, ◌≤◌, ◌∷◌, ◌++◌, ◌&&◌, [], IfOk, OnOk, if◌then◌else◌, length, nat_eq, slice_index_or};
 ghost use Rattle.san_base.specs.declared.limits.TheConstants.{MAX_CELLS};
 ghost use Rattle.san_net.specs.Laid.{place_of};
-ghost use Rattle.san_plain.specs.inner.Rated.{AreRated, hangs_in, hangs_on, rate_cells, rated_at};
+ghost use Rattle.san_plain.specs.inner.Rated.{ListsRated, hangs_in, hangs_on, rate_cells, rated_at};
 
 use san_base::{LeafId, MAX_CELLS, NoMemory, PlaceId};
 use san_expr::mentions;
@@ -98,7 +98,7 @@ fn rated_at(alloc: Global, flat: &Flat, place: PlaceId) -> Result<Vec<LeafId>, N
 impl RatedLeaves {
     /// The leaves by the places of a network.
     pub(crate) fn open(alloc: Global, flat: &Flat) -> Result<RatedLeaves, NoMemory>
-        ensures { IfOk result (λ r. AreRated flat.now r) }
+        ensures { IfOk result (λ r. ListsRated flat.now r) }
     {
         let mut leaves = Vec::with_capacity(alloc, flat.places() as usize)?;
         'places: for q in 0..flat.places() {

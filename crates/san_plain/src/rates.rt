@@ -6,7 +6,7 @@ ghost use Rattle.std.specs.List.{list_any};
 ghost use Rattle.san_net.specs.Laid.{IsTagged, place_of, places_of};
 ghost use Rattle.san_net.specs.declared.part.Part.{Part};
 ghost use Rattle.san_reward.specs.Running.{rates_in, terms_in, with_all_rates, with_leaf_rates};
-ghost use Rattle.san_plain.specs.inner.Rated.{AreRated};
+ghost use Rattle.san_plain.specs.inner.Rated.{ListsRated};
 ghost use Rattle.san_plain.specs.inner.Rates.{AreNew, DiffersIn, FollowsRates, FollowsAt, FollowsPlace, FollowsPlaces, differs_at};
 
 use crate::rated::RatedLeaves;
@@ -68,7 +68,7 @@ fn rate_shared(
     marking: &[u32],
 ) -> bool
     requires network { tally.old.terms ≡ map terms_in flat.now.parts }
-    requires rated { AreRated flat.now rated.now }
+    requires rated { ListsRated flat.now rated.now }
     requires place { place.0 < length flat.now.initial }
     requires before { length before.now ≡ length flat.now.initial }
     requires marking { length marking.now ≡ length flat.now.initial }
@@ -94,7 +94,7 @@ fn rate_slot(
     marking: &[u32],
 ) -> bool
     requires network { tally.old.terms ≡ map terms_in flat.now.parts }
-    requires rated { AreRated flat.now rated.now }
+    requires rated { ListsRated flat.now rated.now }
     requires place { place_of slot < length flat.now.initial }
     requires tagged { IsTagged flat.now.shared slot }
     requires own { (p : Part) → slice_get flat.now.parts leaf.0 ≡ Some p
@@ -124,7 +124,7 @@ fn rate_others(
     marking: &[u32],
 ) -> bool
     requires network { tally.old.terms ≡ map terms_in flat.now.parts }
-    requires rated { AreRated flat.now rated.now }
+    requires rated { ListsRated flat.now rated.now }
     requires leaf { leaf.0 < length flat.now.parts }
     requires before { length before.now ≡ length flat.now.initial }
     requires marking { length marking.now ≡ length flat.now.initial }
@@ -153,7 +153,7 @@ pub(crate) fn update_rates(
     marking: &[u32],
 )
     requires network { tally.old.terms ≡ map terms_in flat.now.parts }
-    requires rated { AreRated flat.now rated.now }
+    requires rated { ListsRated flat.now rated.now }
     requires rates { tally.old.tally.rates ≡ rates_in flat.now kept.old.items }
     requires leaf { leaf.0 < length flat.now.parts }
     requires kept { length kept.old.items ≡ length flat.now.initial }

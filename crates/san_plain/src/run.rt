@@ -1,20 +1,22 @@
-//! The run of a network, shown as its report.
+//! The run of a network, shown as its report or as the report's summary.
 
-ghost use Rattle.std.specs.Prelude.{◌≡◌, ◌≤◌, List, ℕ, Option, IfOk, IfErr, length};
+ghost use Rattle.std.specs.Prelude.{◌≡◌, ◌≤◌, ◌++◌, List, ℕ, Option, IfOk, IfErr, length};
 ghost use Rattle.san_base.specs.Flow.{CountRose};
 ghost use Rattle.san_base.specs.Limits.{IsInRange};
+ghost use Rattle.san_report.specs.Pages.{Sent};
 ghost use Rattle.san_report.specs.Puts.{EndsIn};
-ghost use Rattle.san_plain.specs.inner.Progress.{IsOver, IsStanding, IsUnderWay, TurnedTo};
-ghost use Rattle.san_plain.specs.Reports.{Opened, Reports};
+ghost use Rattle.san_plain.specs.inner.Progress.{IsInLast, IsOver, IsStanding, IsUnderWay};
+ghost use Rattle.san_plain.specs.inner.Progress.{PutsLast, TurnedTo, line_of_last};
+ghost use Rattle.san_plain.specs.Reports.{Opened, Reports, Summarizes, Writes};
 
 use crate::counted::CountedRun;
-use san_base::{Ending, Limits, NoMemory, Sink};
+use san_base::{Ending, Event, Limits, NoMemory, Sink};
 use san_net::Flat;
 use san_report::{Line, Pages, close};
 use std::alloc::Global;
 use std::marker::Model;
 
-/// The sink failed before the report's end.
+/// The sink failed before the end of the report, or of its summary.
 #[derive(Clone, Copy, Debug, PartialEq, Eq)]
 pub struct Unwritten;
 
@@ -72,7 +74,33 @@ fn turn<K: Sink>(
     }
 }
 
-/// Puts what is left of the report of a run that has ended.
+/// Puts the line of a run's last event, where there is one.
+fn put_last<K: Sink>(
+    progress: &mut RunInProgress<'_>,
+    sink: &mut K,
+    last: Option<(u64, Event)>,
+) -> Result<(), Unwritten>
+    requires { IsInLast progress.old.run.flat.now last }
+    ensures report { (text rest : List ℕ) (first : Option (List ℕ))
+        → Sent first (K.held sink.old) progress.old.pages text
+        (line_of_last progress.old.run.flat.now last ++ rest)
+        → PutsLast result first (K.held sink.new) progress.new.pages text rest }
+    ensures run { progress.new.run ≡ progress.old.run }
+    ensures cause { IfErr result (λ e. CountRose (K.faults sink.old) (K.faults sink.new)) }
+    ensures later { K.faults sink.old ≤ K.faults sink.new }
+{
+    let Some((number, event)) = last else {
+        return Ok(());
+    };
+    let line = Line::Event(number, event);
+    if progress.pages.put(sink, progress.run.flat, line) {
+        Ok(())
+    } else {
+        Err(Unwritten)
+    }
+}
+
+/// Puts what is left of the text of a run that has ended.
 fn finish<K: Sink>(
     progress: &mut RunInProgress<'_>,
     sink: &mut K,
@@ -81,9 +109,9 @@ fn finish<K: Sink>(
     requires within { EndsIn progress.old.run.flat.now ending }
     requires spans { length progress.old.run.account.running.spans
         ≡ length progress.old.run.flat.now.rewards }
-    ensures report { (o : Opened) (first : Option (List ℕ))
-        → IsOver o first (K.held sink.old) progress.old.run progress.old.pages ending
-        → Reports result o first (K.held sink.new) }
+    ensures report { (o : Opened) (text : List ℕ) (first : Option (List ℕ))
+        → IsOver o text first (K.held sink.old) progress.old.run progress.old.pages ending
+        → Writes text result o first (K.held sink.new) }
     ensures cause { IfErr result (λ e. CountRose (K.faults sink.old) (K.faults sink.new)) }
     ensures later { K.faults sink.old ≤ K.faults sink.new }
 {
@@ -129,6 +157,22 @@ impl<'a> Run<'a> {
                 Ok(Some(ending)) => return finish(&mut progress, sink, ending),
                 Err(unwritten) => return Err(unwritten),
             }
+        }
+    }
+
+    /// Runs to the end, and puts the report's summary into the sink: the report with all event lines
+    /// but the last left out.
+    pub fn summarize<K: Sink>(self, sink: &mut K) -> Result<Ending, Unwritten>
+        ensures report { Summarizes result self.entry (K.held sink.old) (K.held sink.new) }
+        ensures cause { IfErr result (λ e. CountRose (K.faults sink.old) (K.faults sink.new)) }
+        ensures later { K.faults sink.old ≤ K.faults sink.new }
+    {
+        let mut progress = self.progress;
+        progress.run.flat.is_network();
+        let out = progress.run.run_out();
+        match put_last(&mut progress, sink, out.last) {
+            Ok(()) => finish(&mut progress, sink, out.ending),
+            Err(unwritten) => Err(unwritten),
         }
     }
 }

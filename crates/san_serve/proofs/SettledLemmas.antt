@@ -18,7 +18,7 @@ read_whole bound bytes text rest h =
     h.0.1 ∙ ap (λ (r : List ℕ). text ++ r) used ∙ append-nil text
 
 module _ (A : Type 0) (bound : Bound) (read : List ℕ → Result A Refusal) (of : A → Status) where
-  of_read : (bytes : List ℕ) (x : Result A Refusal) → length bytes ≤ bound.bytes → read bytes ≡ x → settled_by bound read of bytes ≡ status_by of false x
+  pub of_read : (bytes : List ℕ) (x : Result A Refusal) → length bytes ≤ bound.bytes → read bytes ≡ x → settled_by bound read of bytes ≡ status_by of false x
   of_read bytes x short is =
       ap (λ (c : Bool). status_by of c (read bytes)) (le-ltb bound.bytes (length bytes) short)
       ∙ ap (λ (r : Result A Refusal). status_by of false r) is

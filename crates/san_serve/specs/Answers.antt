@@ -24,6 +24,16 @@ ServesBytes m s bytes old new = m.says s bytes old new
 abbrev pub ServesRead : TaskMeaning → Served → Option (List ℕ) → Option (List ℕ) → Option (List ℕ) → Option (List ℕ) → Type 0
 ServesRead m s left rest old new = (bytes : List ℕ) × IsRead m.bound left rest bytes × m.says s bytes old new
 
+-- by the status: what stands in the sink after what it held, of a text that needn't be read
+abbrev pub TextSays : TaskMeaning → Status → List ℕ → Option (List ℕ) → Option (List ℕ) → Type 0
+TextSays m status.Done text old new = m.says served.Done text old new
+TextSays m status.Stopped text old new = m.says served.Stopped text old new
+TextSays m status.WriteFault text old new = m.says served.WriteFault text old new
+TextSays m status.NoMemory text old new = new ≡ old
+TextSays m status.Refused text old new = (refusal : Refusal) × m.refuses text refusal × (new ≡ old)
+TextSays m status.ReadFault text old new = ⊥
+TextSays m status.Words text old new = ⊥
+
 -- by the status: what is left of the source after it, and what stands in the sink after what it held
 abbrev pub StatusSays : TaskMeaning → Status → Option (List ℕ) → Option (List ℕ) → Option (List ℕ) → Option (List ℕ) → Type 0
 StatusSays m status.Done left rest old new = ServesRead m served.Done left rest old new

@@ -1,11 +1,11 @@
-//! A source is read to its end and served, and a line in the notes tells what went wrong: once for all
-//! programs.
+//! A source is read to its end and served, or a text that needn't be read, and a line in the notes
+//! tells what went wrong: once for all programs.
 
-ghost use Rattle.std.specs.Prelude.{◌≡◌, List, ℕ, Ok};
+ghost use Rattle.std.specs.Prelude.{◌≡◌, ◌≤◌, List, ℕ, Ok, length};
 ghost use Rattle.san_base.specs.Flow.{CountRose};
-ghost use Rattle.san_serve.specs.Answers.{StatusSays, IsRefused};
+ghost use Rattle.san_serve.specs.Answers.{StatusSays, TextSays, IsRefused};
 ghost use Rattle.san_serve.specs.Notes.{IsLine, Noted};
-ghost use Rattle.san_serve.specs.inner.Serving.{Serves, answer_of};
+ghost use Rattle.san_serve.specs.inner.Serving.{Serves, ServesText, answer_of};
 
 use crate::notes::conclude;
 use crate::task::{Served, Task};
@@ -26,8 +26,24 @@ fn answer(served: Served) -> Result<Status, Refusal>
     }
 }
 
+/// Serves a text.
+#[tactic(auto, using(crate::proofs::ServeLemmas::serves_text, crate::proofs::ServeLemmas::wrote_badly))]
+fn serve_text<T: Task, K: Sink>(
+    alloc: Global,
+    task: &T,
+    text: &[u8],
+    sink: &mut K,
+) -> Result<Status, Refusal>
+    requires { length text.now ≤ (T.meaning task.now).bound.bytes }
+    ensures answer { ServesText (T.meaning task.now) result text.now (K.held sink.old)
+        (K.held sink.new) }
+    ensures write { result ≡ Ok Status.WriteFault → CountRose (K.faults sink.old) (K.faults sink.new) }
+{
+    answer(task.serve(alloc, text, sink))
+}
+
 /// Reads all bytes and serves them.
-#[tactic(auto, using(crate::proofs::ServeLemmas::serves_read, crate::proofs::ServeLemmas::serves_none, crate::proofs::ServeLemmas::wrote_badly, crate::proofs::ServeLemmas::was_read))]
+#[tactic(auto, using(crate::proofs::ServeLemmas::serves_read, crate::proofs::ServeLemmas::serves_none, crate::proofs::ServeLemmas::was_read))]
 fn serve_source<T: Task, S: Source, K: Sink>(
     alloc: Global,
     task: &T,
@@ -41,7 +57,7 @@ fn serve_source<T: Task, S: Source, K: Sink>(
 {
     let bound = task.bound();
     match take_all(alloc, source, bound.bytes) {
-        Ok(bytes) => answer(task.serve(alloc, bytes.as_slice(), sink)),
+        Ok(bytes) => serve_text(alloc, task, bytes.as_slice(), sink),
         Err(Taking::Over) => Err(bound.too_long()),
         Err(Taking::Failed) => Ok(Status::ReadFault),
         Err(Taking::NoMemory) => Ok(Status::NoMemory),
@@ -68,5 +84,25 @@ pub fn serve_noted<T: Task, S: Source, K: Sink, N: Sink>(
     ensures write { result ≡ Status.WriteFault → CountRose (K.faults sink.old) (K.faults sink.new) }
 {
     let answer = serve_source(alloc, task, source, sink);
+    conclude(alloc, answer, notes)
+}
+
+/// Serves a text that needn't be read, with a line in the notes on what went wrong. A note that fails
+/// changes no status.
+#[tactic(auto, using(crate::proofs::ServeLemmas::text_concluded))]
+pub fn serve_text_noted<T: Task, K: Sink, N: Sink>(
+    alloc: Global,
+    task: &T,
+    text: &[u8],
+    sink: &mut K,
+    notes: &mut N,
+) -> Status
+    requires { length text.now ≤ (T.meaning task.now).bound.bytes }
+    ensures answer { TextSays (T.meaning task.now) result text.now (K.held sink.old) (K.held sink.new) }
+    ensures noted { (line : List ℕ) × IsLine result ((T.meaning task.now).refuses text.now) line
+        × Noted (N.held notes.old) (N.held notes.new) (N.faults notes.old) (N.faults notes.new) line }
+    ensures write { result ≡ Status.WriteFault → CountRose (K.faults sink.old) (K.faults sink.new) }
+{
+    let answer = serve_text(alloc, task, text, sink);
     conclude(alloc, answer, notes)
 }

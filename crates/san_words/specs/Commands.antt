@@ -4,7 +4,7 @@ use Rattle.clap.specs.Walk.{Text}
 use Rattle.clap.specs.Simple.{App, new_app, with_rule, on_top}
 use Rattle.clap.specs.Faults.{fault_of}
 use Rattle.san_words.specs.Options.{number_rule}
-use Rattle.san_words.specs.declared.options.NumberOption.TheVariants.{Burst, Events, Horizon, Rollbacks, Seed, Window, Workers}
+use Rattle.san_words.specs.declared.options.NumberOption.TheVariants.{Burst, Events, Horizon, Kind, Make, Rollbacks, Seed, Window, Workers}
 
 -- no help, and the words are those after the program's name
 abbrev pub bare : List ℕ → App
@@ -18,11 +18,15 @@ with_limits app = with_rule (with_rule (with_rule app (number_rule Horizon)) (nu
 abbrev pub with_bounds : App → App
 with_bounds app = with_limits (with_rule app (number_rule Seed))
 
+-- which model is generated, if one is
+abbrev pub with_model : App → App
+with_model app = with_rule (with_rule app (number_rule Make)) (number_rule Kind)
+
 unfoldable pub run_app : App
-run_app = with_rule (with_rule (with_rule (with_bounds (bare (codes "sanrun"))) (number_rule Workers)) (number_rule Window)) (number_rule Rollbacks)
+run_app = with_rule (with_rule (with_rule (with_model (with_bounds (bare (codes "sanrun")))) (number_rule Workers)) (number_rule Window)) (number_rule Rollbacks)
 
 unfoldable pub plain_app : App
-plain_app = with_bounds (bare (codes "sanplain"))
+plain_app = with_model (with_bounds (bare (codes "sanplain")))
 
 -- the command takes the words
 abbrev pub IsTaken : App → List Text → Type 0

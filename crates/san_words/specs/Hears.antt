@@ -1,15 +1,17 @@
 -- What is heard of words.
-use Rattle.std.specs.Prelude.{◌≡◌, ◌<◌, ◌≤◌, ◌^◌, ℕ, List, min, max, Option, None, Some}
+use Rattle.std.specs.Prelude.{◌≡◌, ◌<◌, ◌≤◌, ◌^◌, ℕ, Bool, List, min, max, Option, None, Some, IfSome, is_some}
 use Rattle.std.specs.Str.Parse.{digits_value, without_leading_plus, IsNumeral}
 use Rattle.clap.specs.Simple.{App, matches_of}
 use Rattle.clap.specs.Walk.{Text, one_of}
 use Rattle.san_base.specs.Limits.{IsInRange}
 use Rattle.san_base.specs.declared.limits.Limits.{Limits}
 use Rattle.san_base.specs.declared.limits.TheConstants.{MAX_WORKERS}
+use Rattle.san_gen.specs.declared.model.TheConstants.{MAX_COPIES, MIN_COPIES}
 use Rattle.san_words.specs.Commands.{IsTaken}
-use Rattle.san_words.specs.Options.{Row, default_in, least_of, most_of, row_of}
+use Rattle.san_words.specs.Options.{Row, default_in, kind_of, least_of, most_of, row_of}
 use Rattle.san_words.specs.declared.options.NumberOption.{NumberOption}
-use Rattle.san_words.specs.declared.options.NumberOption.TheVariants.{Burst, Events, Horizon, Rollbacks, Seed, Window, Workers}
+use Rattle.san_words.specs.declared.options.NumberOption.TheVariants.{Burst, Events, Horizon, Kind, Make, Rollbacks, Seed, Window, Workers}
+use Rattle.san_words.specs.declared.orders.Made.{Made}
 use Rattle.san_words.specs.declared.orders.Orders.{Orders}
 use Rattle.san_words.specs.declared.orders.Heard.{Heard}
 use Rattle.san_words.specs.declared.orders.Heard.TheVariants.{Run, Refused, NoMemory}
@@ -47,9 +49,26 @@ pub record BoundsSay (texts : Texts) (seed : ℕ) (limits : Limits) : Type 0 whe
   pub burst_said : SetsNumber texts Burst limits.burst
   pub events_said : SetsNumber texts Events limits.events
 
+-- a model that is generated
+pub record MadeSay (texts : Texts) (m : Made) : Type 0 where
+  pub copies_said : SetsNumber texts Make m.copies
+  pub number : ℕ
+  pub kind_said : SetsNumber texts Kind number
+  pub of_number : m.kind ≡ kind_of number
+
+-- an option is there
+abbrev pub is_given : Texts → NumberOption → Bool
+is_given texts option = is_some (texts (row_of option).name)
+
+-- a model is generated just where the option says so
+pub record MakeSays (texts : Texts) (make : Option Made) : Type 0 where
+  pub given : is_some make ≡ is_given texts Make
+  pub said : IfSome make (MadeSay texts)
+
 -- and how it is run ahead
 pub record OrdersSay (texts : Texts) (o : Orders) : Type 0 where
   pub bounds : BoundsSay texts o.seed o.limits
+  pub make_said : MakeSays texts o.make
   pub window_said : SetsNumber texts Window o.limits.window
   pub rollbacks_said : SetsNumber texts Rollbacks o.limits.rollbacks
   pub workers_said : SetsNumber texts Workers o.workers
@@ -57,6 +76,7 @@ pub record OrdersSay (texts : Texts) (o : Orders) : Type 0 where
 -- a run in one thread is never ahead
 pub record PlainSay (texts : Texts) (o : Orders) : Type 0 where
   pub bounds : BoundsSay texts o.seed o.limits
+  pub make_said : MakeSays texts o.make
   pub window : o.limits.window ≡ default_in (row_of Window)
   pub rollbacks : o.limits.rollbacks ≡ default_in (row_of Rollbacks)
   pub workers : o.workers ≡ 0
@@ -71,8 +91,13 @@ Hears Say app words (Run o) = IsTaken app words × Say (texts_of app words) o
 Hears Say app words Refused = IsTaken app words → ⊥
 Hears Say app words NoMemory = Unit {0}
 
+-- a model of so many copies can be generated
+abbrev pub CanMake : Option Made → Type 0
+CanMake None = Unit {0}
+CanMake (Some m) = (MIN_COPIES ≤ m.copies) × (m.copies ≤ MAX_COPIES)
+
 -- what is heard can be run
 abbrev pub CanRun : Heard → Type 0
-CanRun (Run o) = IsInRange o.limits × (o.workers ≤ MAX_WORKERS)
+CanRun (Run o) = IsInRange o.limits × (o.workers ≤ MAX_WORKERS) × CanMake o.make
 CanRun Refused = Unit {0}
 CanRun NoMemory = Unit {0}

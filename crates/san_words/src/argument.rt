@@ -19,7 +19,6 @@ fn parser<'a>(range: NumberRange) -> ValueParser<'a>
     }
 }
 
-/// Without a default the option must be there.
 fn with_default<'a>(arg: Arg<'a>, default: Option<DefaultNumber<'a>>) -> Arg<'a>
     ensures rule { rule_of result
         ≡ with_default (option_map (λ d. d.text.now) default.entry) (rule_of arg.entry) }
@@ -27,7 +26,7 @@ fn with_default<'a>(arg: Arg<'a>, default: Option<DefaultNumber<'a>>) -> Arg<'a>
 {
     match default {
         Some(default) => arg.default_value(default.text),
-        None => arg.required(true),
+        None => arg,
     }
 }
 
@@ -40,6 +39,7 @@ pub(crate) fn argument<'a>(alloc: Global, option: NumberOption) -> Arg<'a>
     let arg = Arg::new(alloc, row.name)
         .long(row.name)
         .action(ArgAction::Set)
-        .value_parser(parser(row.range));
+        .value_parser(parser(row.range))
+        .required(row.required);
     with_default(arg, row.default)
 }

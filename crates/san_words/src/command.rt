@@ -3,9 +3,12 @@
 ghost use Rattle.std.specs.Prelude.{◌≡◌, IfOk};
 ghost use Rattle.clap.specs.Words.{app_of};
 ghost use Rattle.san_words.specs.Commands.{bare, plain_app, run_app, with_bounds, with_limits};
+ghost use Rattle.san_words.specs.Commands.{with_model};
 
 use crate::argument::argument;
-use crate::options::NumberOption::{Burst, Events, Horizon, Rollbacks, Seed, Window, Workers};
+use crate::options::NumberOption::{
+    Burst, Events, Horizon, Kind, Make, Rollbacks, Seed, Window, Workers,
+};
 use clap::Command;
 use std::alloc::{AllocError, Global};
 
@@ -34,11 +37,20 @@ fn with_bounds<'a>(alloc: Global, command: Command<'a>) -> Result<Command<'a>, A
     with_limits(alloc, command.arg(argument(alloc, Seed))?)
 }
 
+/// A command with the options of a generated model.
+fn with_model<'a>(alloc: Global, command: Command<'a>) -> Result<Command<'a>, AllocError>
+    ensures { IfOk result (λ c. app_of c ≡ with_model (app_of command.entry)) }
+{
+    command
+        .arg(argument(alloc, Make))?
+        .arg(argument(alloc, Kind))
+}
+
 /// The command of a run with workers.
 pub(crate) fn run_command<'a>(alloc: Global) -> Result<Command<'a>, AllocError>
     ensures { IfOk result (λ c. app_of c ≡ run_app) }
 {
-    with_bounds(alloc, bare(alloc, "sanrun"))?
+    with_model(alloc, with_bounds(alloc, bare(alloc, "sanrun"))?)?
         .arg(argument(alloc, Workers))?
         .arg(argument(alloc, Window))?
         .arg(argument(alloc, Rollbacks))
@@ -49,5 +61,5 @@ pub(crate) fn run_command<'a>(alloc: Global) -> Result<Command<'a>, AllocError>
 pub(crate) fn plain_command<'a>(alloc: Global) -> Result<Command<'a>, AllocError>
     ensures { IfOk result (λ c. app_of c ≡ plain_app) }
 {
-    with_bounds(alloc, bare(alloc, "sanplain"))
+    with_model(alloc, with_bounds(alloc, bare(alloc, "sanplain"))?)
 }

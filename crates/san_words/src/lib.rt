@@ -12,5 +12,5 @@ mod values;
 mod words;
 
 pub use options::{NumberOption, NumberRange};
-pub use orders::{Heard, Orders};
+pub use orders::{Heard, Made, Orders};
 pub use words::{hear, hear_plain};

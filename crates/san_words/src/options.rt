@@ -1,10 +1,11 @@
 //! The table of the options: what each is called, the numbers that it takes, and its default.
 
 ghost use Rattle.std.specs.Prelude.{◌≡◌, decimal};
-ghost use Rattle.san_words.specs.Options.{least_of, most_of, optional, required, row_of};
+ghost use Rattle.san_words.specs.Options.{least_of, most_of, optional, required, row_of, unset};
 ghost use Rattle.san_words.specs.inner.Rows.{IsRow, default_of};
 
 use san_base::{MAX_BURST, MAX_EVENTS, MAX_HORIZON, MAX_ROLLBACKS, MAX_WINDOW, MAX_WORKERS};
+use san_gen::{MAX_COPIES, MIN_COPIES};
 
 /// The burst limit where none is given, in completions.
 const DEFAULT_BURST: u64 = 1_000;
@@ -21,6 +22,15 @@ const DEFAULT_WINDOW: u64 = 16;
 /// The limit of rollbacks where none is given.
 const DEFAULT_ROLLBACKS: u64 = 10_000;
 
+/// The number of the farm among the kinds of generated models.
+pub(crate) const FARM_NUMBER: u32 = 1;
+
+/// The number of the ring among the kinds of generated models.
+pub(crate) const RING_NUMBER: u32 = 2;
+
+/// The kind of a generated model where none is given.
+const DEFAULT_KIND: u64 = 1;
+
 /// An option of the programs, which sets one whole number.
 #[derive(Clone, Copy, Debug, PartialEq, Eq)]
 pub enum NumberOption {
@@ -31,6 +41,10 @@ pub enum NumberOption {
     Workers,
     Window,
     Rollbacks,
+    /// The copies of a model that is generated in place of reading one.
+    Make,
+    /// The number of the generated model's kind.
+    Kind,
 }
 
 /// The least and the greatest number that an option takes.
@@ -69,11 +83,13 @@ pub(crate) struct DefaultNumber<'a> {
     pub(crate) text: &'a str,
 }
 
-/// A row of the table. Without a default the option must be there.
+/// A row of the table.
 #[derive(Clone, Copy)]
 pub(crate) struct OptionRow<'a> {
     pub(crate) name: &'a str,
     pub(crate) range: NumberRange,
+    /// Whether the option must be there.
+    pub(crate) required: bool,
     pub(crate) default: Option<DefaultNumber<'a>>,
 }
 
@@ -95,6 +111,19 @@ fn required<'a>(name: &'a str, range: NumberRange) -> OptionRow<'a>
     OptionRow {
         name,
         range,
+        required: true,
+        default: None,
+    }
+}
+
+/// An option that may be missing, and then sets nothing.
+fn unset<'a>(name: &'a str, range: NumberRange) -> OptionRow<'a>
+    ensures { IsRow (unset name.entry.now range) result }
+{
+    OptionRow {
+        name,
+        range,
+        required: false,
         default: None,
     }
 }
@@ -106,6 +135,7 @@ fn optional<'a>(name: &'a str, range: NumberRange, number: u64, text: &'a str) -
     OptionRow {
         name,
         range,
+        required: false,
         default: Some(DefaultNumber { number, text }),
     }
 }
@@ -133,5 +163,7 @@ pub(crate) fn row<'a>(option: NumberOption) -> OptionRow<'a>
             DEFAULT_ROLLBACKS,
             "10000",
         ),
+        NumberOption::Make => unset("make", Signed(MIN_COPIES, MAX_COPIES)),
+        NumberOption::Kind => optional("kind", Signed(FARM_NUMBER, RING_NUMBER), DEFAULT_KIND, "1"),
     }
 }

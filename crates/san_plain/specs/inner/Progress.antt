@@ -9,7 +9,8 @@ use Rattle.san_law.specs.State.{State, opening_state}
 use Rattle.san_law.specs.Step as law
 use Rattle.san_law.specs.Trajectory.{Runs, Trajectory, trajectory}
 use Rattle.san_net.specs.Laid.{IsNetwork, acts_of}
-use Rattle.san_report.specs.Lines.{ending_line, reward_lines}
+use Rattle.san_net.specs.Network.{Network}
+use Rattle.san_report.specs.Lines.{ending_line, event_line, reward_lines}
 use Rattle.san_report.specs.Puts.{EndsIn}
 use Rattle.san_reward.specs.Running.{IsOf, rates_in}
 use Rattle.san_plain.specs.inner.Accounts.{RewardAccount, opened_account}
@@ -17,10 +18,11 @@ use Rattle.san_report.specs.Closings.{closing}
 use Rattle.san_report.specs.Pages.{Sent}
 use Rattle.san_plain.specs.Reports.{Opened, ending_of, event_lines, net_by, report_of, worth_at}
 use Rattle.san_plain.specs.declared.counted.CountedRun.{CountedRun}
+use Rattle.san_plain.specs.declared.counted.Outcome.{Outcome}
 use Rattle.san_plain.specs.declared.run.RunInProgress.{RunInProgress}
 use Rattle.san_plain.specs.declared.run.Unwritten.{Unwritten}
 use Rattle.san_seq.specs.FlatRun.{On, Run, opening, steps_left}
-use Rattle.san_seq.specs.Outcomes.{ending_in, event_in}
+use Rattle.san_net.specs.Runs.{ending_in, event_in}
 
 -- the run that it was opened for
 abbrev pub opened_by : CountedRun → Opened
@@ -82,6 +84,20 @@ abbrev pub StepsTo : Opened → List law.Event → State → Result Event Ending
 StepsTo o es s (Ok event) old new = Happens o es s event old new
 StepsTo o es s (Err e) old new = Ends o s e old new
 
+-- of these events the last one, with its number
+abbrev pub IsLastOf : Network → List law.Event → Option (ℕ × Event) → Type 0
+IsLastOf n es None = es ≡ []
+IsLastOf n es (Some (number, event)) = (front : List law.Event) × (e : law.Event) × (es ≡ front ++ e ∷ []) × (length front ≡ number) × (event_in n e ≡ event) × (event.act.0 < acts_of n.parts)
+
+-- a run that went on to its end: the events that came, and the last of them
+pub record RunsOut (o : Opened) (out : Outcome) (c : CountedRun) : Type 0 where
+  pub events : List law.Event
+  pub state : State
+  pub before : CountedRun
+  pub stands : Stands o events state before
+  pub ends : Ends o state out.ending before c
+  pub last : IsLastOf o.network events out.last
+
 -- no event came yet, and nothing was put
 pub record IsUnwritten (p : RunInProgress) : Type 0 where
   pub run : IsOpened p.run
@@ -96,15 +112,29 @@ left_after o es (Some t) = event_lines o.network (length es) t.events ++ (ending
 abbrev pub IsUnderWay : Opened → Option (List ℕ) → Option (List ℕ) → RunInProgress → Type 0
 IsUnderWay o first now c = (es : List law.Event) × (s : State) × Stands o es s c.run × Sent first now c.pages (report_of o) (left_after o es (trajectory (net_by o) s))
 
--- a run has ended, and of its report all but the closing lines were put
-pub record IsOver (o : Opened) (first now : Option (List ℕ)) (c : CountedRun) (page : List ℕ) (e : Ending) : Type 0 where
+-- a run has ended, and of its text all but the closing lines were put
+pub record IsOver (o : Opened) (text : List ℕ) (first now : Option (List ℕ)) (c : CountedRun) (page : List ℕ) (e : Ending) : Type 0 where
   pub outcome : ending_of o ≡ Some e
   pub within : EndsIn c.flat.now e
   pub spans : length c.account.running.spans ≡ length c.flat.now.rewards
-  pub put : Sent first now page (report_of o) (closing c.flat.now c.account.running c.count e)
+  pub put : Sent first now page text (closing c.flat.now c.account.running c.count e)
+
+-- an activity of the network
+abbrev pub IsInLast : Network → Option (ℕ × Event) → Type 0
+IsInLast n None = Unit {0}
+IsInLast n (Some (number, event)) = event.act.0 < acts_of n.parts
+
+abbrev pub line_of_last : Network → Option (ℕ × Event) → List ℕ
+line_of_last n None = []
+line_of_last n (Some (number, event)) = event_line n number event
+
+-- of a text a line was put, and the rest is still to come; or the sink failed
+abbrev pub PutsLast : Result Unit Unwritten → Option (List ℕ) → Option (List ℕ) → List ℕ → List ℕ → List ℕ → Type 0
+PutsLast (Ok done) first now page text rest = Sent first now page text rest
+PutsLast (Err fault) first now page text rest = AppendsPrefix first now text
 
 -- after a turn: the run goes on, with fewer steps to come, or has ended; or the sink failed
 abbrev pub TurnedTo : Opened → Option (List ℕ) → Result (Option Ending) Unwritten → Option (List ℕ) → RunInProgress → RunInProgress → Type 0
 TurnedTo o first (Ok None) now old c = IsUnderWay o first now c × (steps_left c.run.seq < steps_left old.run.seq)
-TurnedTo o first (Ok (Some e)) now old c = IsOver o first now c.run c.pages e
+TurnedTo o first (Ok (Some e)) now old c = IsOver o (report_of o) first now c.run c.pages e
 TurnedTo o first (Err fault) now old c = AppendsPrefix first now (report_of o)

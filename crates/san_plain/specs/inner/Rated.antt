@@ -33,6 +33,6 @@ abbrev pub rated_at : Network → ℕ → List LeafId
 rated_at n q = filter (hangs_in n q) (importers_of n.parts q)
 
 -- a table has these leaves for each place
-pub record AreRated (n : Network) (table : List (List LeafId)) : Type 0 where
+pub record ListsRated (n : Network) (table : List (List LeafId)) : Type 0 where
   pub sized : length table ≡ length n.initial
   pub each : (q : ℕ) → q < length n.initial → slice_index_or table q [] ≡ rated_at n q

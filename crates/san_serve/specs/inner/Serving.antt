@@ -3,7 +3,7 @@ use Rattle.std.specs.Prelude.{ℕ, ◌≡◌, List, Option, Result, Ok, Err}
 use Rattle.san_base.specs.declared.status.Status.{Status}
 use Rattle.san_base.specs.declared.status.Status.TheVariants as status
 use Rattle.san_text.specs.declared.text.Refusal.{Refusal}
-use Rattle.san_serve.specs.Answers.{StatusSays, IsRefused}
+use Rattle.san_serve.specs.Answers.{StatusSays, TextSays, IsRefused}
 use Rattle.san_serve.specs.Notes.{refusal_line, status_line}
 use Rattle.san_serve.specs.Tasks.{TaskMeaning}
 use Rattle.san_serve.specs.declared.task.Served.{Served}
@@ -16,6 +16,12 @@ answer_of served.Stopped = Ok status.Stopped
 answer_of served.WriteFault = Ok status.WriteFault
 answer_of served.NoMemory = Ok status.NoMemory
 answer_of (served.Refused refusal) = Err refusal
+
+-- no text comes to the status of words that aren't taken or of a read fault, nor to that of a refusal without one
+abbrev pub ServesText : TaskMeaning → Result Status Refusal → List ℕ → Option (List ℕ) → Option (List ℕ) → Type 0
+ServesText m (Ok status.Refused) text old new = ⊥
+ServesText m (Ok s) text old new = TextSays m s text old new
+ServesText m (Err refusal) text old new = m.refuses text refusal × (new ≡ old)
 
 -- no source comes to the status of words that aren't taken, nor to that of a refusal without one
 abbrev pub Serves : TaskMeaning → Result Status Refusal → Option (List ℕ) → Option (List ℕ) → Option (List ℕ) → Option (List ℕ) → Type 0

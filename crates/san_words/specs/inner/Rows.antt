@@ -9,6 +9,7 @@ use Rattle.san_words.specs.declared.options.OptionRow.{OptionRow}
 pub record IsRow (row : Row) (r : OptionRow) : Type 0 where
   pub name : r.name.now ≡ row.name
   pub range : r.range ≡ row.range
+  pub required : r.required ≡ row.required
   pub number : option_map (λ d. d.number) r.default ≡ row.default
   pub text : option_map (λ d. d.text.now) r.default ≡ option_map decimal row.default
 

@@ -35,4 +35,4 @@ returns-else-put-clause-report g c = λ o first under.
 
 pub returns-in-Err-clause-report : goal.returns-in-Err-clause-report
 returns-in-Err-clause-report g c = λ o first under.
-    is_over o under.0 under.1 c.args.progress.now.run under.2 first (g.K.Sink.held c.args.sink.now) c.args.progress.now.pages c.in-Err.ending c.step.new.self (c.in-Err.ensures o under.0 under.1 under.2) under.3
+    is_over o under.0 under.1 c.args.progress.now.run under.2 (report_of o) first (g.K.Sink.held c.args.sink.now) c.args.progress.now.pages c.in-Err.ending c.step.new.self (c.in-Err.ensures o under.0 under.1 under.2) under.3

@@ -21,3 +21,7 @@ optional-requires-in-Window c = refl
 pub optional-requires-in-Rollbacks : goal.optional-requires-in-Rollbacks
 unfolding digits
 optional-requires-in-Rollbacks c = refl
+
+pub optional-requires-in-Kind : goal.optional-requires-in-Kind
+unfolding digits
+optional-requires-in-Kind c = refl

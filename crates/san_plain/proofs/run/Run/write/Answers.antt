@@ -1,7 +1,7 @@
 use Rattle.std.proofs.Common.{◌≡◌, arith, subst, List, ℕ, Option, Some, None, Ok}
 use Rattle.san_base.specs.declared.ending.Ending.{Ending}
 use Rattle.san_plain.specs.inner.Progress.{IsUnderWay, TurnedTo}
-use Rattle.san_plain.specs.Reports.{Opened}
+use Rattle.san_plain.specs.Reports.{Opened, report_of}
 use Rattle.san_plain.specs.declared.run.RunInProgress.{RunInProgress}
 use Rattle.san_plain.proofs.OpenedLemmas.{begins}
 use Rattle.san_plain.proofs.run.Run.write.Goals as goal
@@ -36,7 +36,7 @@ finish-requires-clause-spans g c =
 
 pub returns-in-Ok-Some-clause-report : goal.returns-in-Ok-Some-clause-report
 returns-in-Ok-Some-clause-report g c =
-    c.finish.ensures.report c.args.self (g.K.Sink.held c.args.sink.now)
+    c.finish.ensures.report c.args.self (report_of c.args.self) (g.K.Sink.held c.args.sink.now)
     (turned c.args.self (g.K.Sink.held c.args.sink.now) (g.K.Sink.held c.turn.new.sink) c.turns.progress c.turn.new.progress c.in-Ok-Some.field-0 (Some c.in-Ok-Some.ending) c.in-Ok-Some.field-0-is (c.in-Ok-Some.ensures.report c.args.self (g.K.Sink.held c.args.sink.now) c.turns.invariant.way))
 
 pub returns-in-Err-clause-report : goal.returns-in-Err-clause-report
