@@ -19,8 +19,6 @@ mod orders;
 #[cfg(test)]
 mod overlays;
 #[cfg(test)]
-mod parts;
-#[cfg(test)]
 mod positions;
 #[cfg(test)]
 mod probes;

@@ -74,6 +74,16 @@ fn kind_of(part: &Part, words: &str) -> Option<Kind>
     if is_fit(part, kind) { Some(kind) } else { None }
 }
 
+/// Where a leaf's piece stands before its first completion.
+fn stamp_at(leaf: LeafId, time: u64) -> Stamp {
+    Stamp {
+        time: Tick(time),
+        leaf,
+        pos: 0,
+        all: false,
+    }
+}
+
 /// The claim of the piece, from the leaf's first state; none where there is no such piece.
 pub(crate) fn claim(alloc: Global, flat: &Flat, words: &str) -> Result<Option<Claim>, NoMemory>
     ensures { IfOk result (λ o. IfSome o (λ c. Fits (claimed c))) }
@@ -95,19 +105,12 @@ pub(crate) fn claim(alloc: Global, flat: &Flat, words: &str) -> Result<Option<Cl
         return Ok(None);
     };
     let base = Shared::new(alloc, first_state(alloc, part.get())?)?;
-    let time = Tick(time);
-    let stamp = Stamp {
-        time,
-        leaf,
-        pos: 0,
-        all: false,
-    };
     Ok(Some(Claim {
         seed,
         part,
         base,
         kind,
-        time,
-        stamp,
+        time: Tick(time),
+        stamp: stamp_at(leaf, time),
     }))
 }

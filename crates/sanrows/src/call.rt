@@ -106,7 +106,7 @@ impl<'a> Call<'a> {
     /// Makes the call on a text; none where there is no call of the name.
     pub(crate) fn run(&self, alloc: Global, text: &[u8]) -> Result<Option<Ran>, NoMemory> {
         match self.name {
-            "network" | "piece" => Ok(Some(self.run_below(alloc, text)?)),
+            "model" | "network" | "piece" => Ok(Some(self.run_below(alloc, text)?)),
             _ => self.run_top(alloc, text),
         }
     }

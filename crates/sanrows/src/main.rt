@@ -7,6 +7,7 @@ mod asked;
 mod below;
 mod call;
 mod folder;
+mod model;
 mod network;
 mod piece;
 mod row;

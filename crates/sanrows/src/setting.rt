@@ -5,7 +5,7 @@ use san_base::NoMemory;
 use std::alloc::Global;
 
 /// The words that a setting may begin with.
-const KNOWN: [&str; 15] = [
+const KNOWN: [&str; 16] = [
     "calls",
     "words",
     "show-words",
@@ -21,6 +21,7 @@ const KNOWN: [&str; 15] = [
     "ends",
     "begins",
     "fails",
+    "unread",
 ];
 
 /// Whether each line of the settings begins with a known word.

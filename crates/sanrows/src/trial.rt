@@ -61,6 +61,8 @@ struct Wanted<'a> {
     notes: &'a [u8],
     /// The notes begin so.
     begins: bool,
+    /// Nothing is read.
+    unread: bool,
 }
 
 /// The output up to a put that fails: a prefix, of no more bytes than the puts before it moved.
@@ -95,7 +97,7 @@ impl<'a> Wanted<'a> {
             Some(Fault::Output)
         } else if !self.has_notes(call, ran) {
             Some(Fault::Notes)
-        } else if self.status == WORDS && ran.reads > 0 {
+        } else if (self.unread || self.status == WORDS) && ran.reads > 0 {
             Some(Fault::Reads)
         } else {
             None
@@ -330,6 +332,7 @@ fn wanted_of<'a>(row: &Row<'a>) -> Option<Wanted<'a>> {
         ends: row.value("ends").is_some(),
         notes: notes.as_bytes(),
         begins,
+        unread: row.value("unread").is_some(),
     })
 }
 
