@@ -9,11 +9,11 @@ use Rattle.san_law.specs.Step.{Event}
 use Rattle.san_law.specs.Piece.{Fire, Kind, Refresh, Settle}
 use Rattle.san_law.specs.Order.{Needs, need_of}
 use Rattle.san_book.specs.Machines.{Machine, advance, after_pieces, is_kind, take_need}
-use Rattle.san_book.specs.Chains.{AllMade, Chain, Connects, chain_of}
+use Rattle.san_book.specs.Chains.{AreMadeByLogs, Chain, Connects, chain_of}
 use Rattle.san_book.specs.Cores.{Commit, Core, Redo}
 use Rattle.san_book.specs.Steps.{all_committed, fallen, falls, happens, taken_anew}
 use Rattle.san_book.specs.Journals.{booked}
-use Rattle.san_book.specs.Whole.{IsCommitted, IsLawful, IsWhole}
+use Rattle.san_book.specs.Whole.{IsCommitted, IsLawfulMachine, IsWhole}
 use Rattle.san_book.specs.Laws.{After, EventsGrow, GoOn, Stays, StepsCommit, StepsLeave}
 use Rattle.san_book.proofs.Afters.{after_all, after_booked, after_map}
 use Rattle.san_book.proofs.Taking.{taken_whole}
@@ -39,7 +39,7 @@ pub fallen_by : {H S P : Type 0} (Q : Core H P → Type 0) (t : Bool) (m : Machi
 fallen_by Q true m c j a b = a
 fallen_by Q false m c j a b = b
 
-module _ {H S P : Type 0} (m : Machine H S P) (law : IsLawful m) (limits : Limits) (start : H) where
+module _ {H S P : Type 0} (m : Machine H S P) (law : IsLawfulMachine m) (limits : Limits) (start : H) where
   -- one needed piece more
   one_more : (c : Core H P) (j : ℕ) (kind : Kind) (time : ℕ) (h : H) → m.stopped c.held ≡ false → need_of limits.horizon.0 (m.order c.held) ≡ Needs j kind time → h ≡ m.takes c.held j (m.needed c.held j kind time) →
       IsCommitted m limits start c → h ≡ after_pieces m limits.horizon.0 (suc c.taken) start
@@ -50,7 +50,7 @@ module _ {H S P : Type 0} (m : Machine H S P) (law : IsLawful m) (limits : Limit
   head_is c j kind time x rest h i =
       let b = both_true (is_kind (m.reading.kind x.1) kind) (nat_eq (m.reading.time x.1) time) i.kinded in
       let joined : Connects m.reading (m.state c.held j) (x ∷ rest) = subst (λ (y : Chain P). Connects m.reading (m.state c.held j) y) i.chain (h.connects i.goes.open_end j) in
-      let made : AllMade m j (x ∷ rest) = subst (λ (y : Chain P). AllMade m j y) i.chain (h.chains j).made in
+      let made : AreMadeByLogs m j (x ∷ rest) = subst (λ (y : Chain P). AreMadeByLogs m j y) i.chain (h.chains j).made in
       law.sound c.held j kind time (m.reading.log x.1) x.1
       (sym (ap (λ s. m.makes j s (m.reading.kind x.1) (m.reading.time x.1) (m.reading.log x.1)) joined.0
       ∙ (ap (λ k. m.makes j (m.state c.held j) k (m.reading.time x.1) (m.reading.log x.1)) (kind_is (m.reading.kind x.1) kind b.0)
@@ -80,11 +80,11 @@ module _ {H S P : Type 0} (m : Machine H S P) (law : IsLawful m) (limits : Limit
         fallen_by (λ d. IsCommitted m limits start (booked (Redo w) d)) (falls m kind time (m.state (m.takes c.held j p) j) (chain_of c.chains j)) m (taken_anew m c j p) j one one;
   }
 
-pub steps_commit : {H S P : Type 0} (m : Machine H S P) → IsLawful m → StepsCommit m
+pub steps_commit : {H S P : Type 0} (m : Machine H S P) → IsLawfulMachine m → StepsCommit m
 steps_commit m law limits start c s h k = after_booked (IsCommitted m limits start) s (happens m limits s c) (handled m limits c (λ s d. IsCommitted m limits start (booked s d)) (commit_handles m law limits start c h k) s)
 
 -- events
-module _ {H S P : Type 0} (m : Machine H S P) (law : IsLawful m) (limits : Limits) (c : Core H P) where
+module _ {H S P : Type 0} (m : Machine H S P) (law : IsLawfulMachine m) (limits : Limits) (c : Core H P) where
   no_more : GoOn m c c
   no_more = ([], sym (append-nil (m.events c.held)))
 
@@ -118,7 +118,7 @@ module _ {H S P : Type 0} (m : Machine H S P) (limits : Limits) (c : Core H P) w
     redo = λ w j kind time g need. tt;
   }
 
-pub events_grow : {H S P : Type 0} (m : Machine H S P) → IsLawful m → EventsGrow m
+pub events_grow : {H S P : Type 0} (m : Machine H S P) → IsLawfulMachine m → EventsGrow m
 events_grow m law limits c s = after_booked (GoOn m c) s (happens m limits s c) (handled m limits c (λ s d. GoOn m c (booked s d)) (grow_handles m law limits c) s)
 
 pub steps_leave : {H S P : Type 0} (m : Machine H S P) → StepsLeave m

@@ -6,7 +6,7 @@ use Rattle.san_book.specs.Machines.{Machine}
 use Rattle.san_book.specs.Cores.{Commit, Core, Pending, Step}
 use Rattle.san_book.specs.Steps.{all_committed, chain_end, happens, with_claim}
 use Rattle.san_book.specs.Journals.{booked}
-use Rattle.san_book.specs.Whole.{IsLawful, IsWhole}
+use Rattle.san_book.specs.Whole.{IsLawfulMachine, IsWhole}
 use Rattle.san_book.specs.Laws.{StepsKeep}
 use Rattle.san_book.proofs.Afters.{after_booked, after_map}
 use Rattle.san_book.proofs.Claims.{claims_less, claims_more}
@@ -19,7 +19,7 @@ use Rattle.san_book.proofs.Walking.{Handles, after_commits, handled}
 pub whole_booked : {H S P : Type 0} (m : Machine H S P) (s : Step) (d : Core H P) → IsWhole m d → IsWhole m (booked s d)
 whole_booked m s d h = record { width = h.width; lines = h.lines; leaves = h.leaves; counters = h.counters; committed = h.committed; exact = h.exact; chains = h.chains; connects = h.connects; claims = h.claims }
 
-module _ {H S P : Type 0} (m : Machine H S P) (law : IsLawful m) (limits : Limits) (c : Core H P) (h : IsWhole m c) where
+module _ {H S P : Type 0} (m : Machine H S P) (law : IsLawfulMachine m) (limits : Limits) (c : Core H P) (h : IsWhole m c) where
   one_claimed : (w : ℕ) (n : Pending) → n.leaf < length c.chains → IsWhole m (with_claim c w (Some n))
   one_claimed w n l = with_claim_whole m c w (Some n) h (λ v p e. elim (claims_more c.claims w v n p e) [
     | inl r ↦ subst (λ (x : Pending). x.leaf < length c.chains) r.1 l
@@ -39,5 +39,5 @@ module _ {H S P : Type 0} (m : Machine H S P) (law : IsLawful m) (limits : Limit
     redo = λ w j kind time g need. whole_booked m _ _ (redone_whole m law c j kind time h g.open_end);
   }
 
-pub steps_keep : {H S P : Type 0} (m : Machine H S P) → IsLawful m → StepsKeep m
+pub steps_keep : {H S P : Type 0} (m : Machine H S P) → IsLawfulMachine m → StepsKeep m
 steps_keep m law limits c s h = after_booked (IsWhole m) s (happens m limits s c) (handled m limits c (λ s d. IsWhole m (booked s d)) (wholes m law limits c h) s)

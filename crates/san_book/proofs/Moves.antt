@@ -7,9 +7,9 @@ use Rattle.san_line.specs.declared.version.Version.{Version}
 use Rattle.san_line.specs.Lines.{find, found_by}
 use Rattle.san_line.specs.Ordered.{IsOrdered}
 use Rattle.san_line.proofs.Ordered.{by_bool, find_inserted, find_without, hidden, ordered_inserted, ordered_without}
-use Rattle.san_book.specs.Machines.{Reading}
+use Rattle.san_book.specs.Machines.{PieceReading}
 use Rattle.san_book.specs.Lines.{AreCommitted, AreWrites, Line, commit, each, line_of, no_line, put, version_at, withdraw, write_of}
-use Rattle.san_book.specs.Chains.{AllFit, AreApart, Chain, Exact, has, version_of, with_piece, without_piece, without_pieces, written}
+use Rattle.san_book.specs.Chains.{AllFit, AreNumberedApart, Chain, Exact, has, version_of, with_piece, without_piece, without_pieces, written}
 use Rattle.san_book.proofs.Each.{changed, committed_kept, each_at, either, eq_turn, length_each, unlike}
 use Rattle.san_book.proofs.Written.{apart_less, with_chain, written_at, written_free, written_less, written_push}
 
@@ -54,17 +54,17 @@ drop_ordered j n q None l h = h
 drop_ordered j n q (Some v) l h = ordered_without (λ l p. nat_eq l j && nat_eq p n) l.versions h
 
 -- the same chains
-pub exact_same : {S P : Type 0} (r : Reading S P) (lines : List Line) (f g : ℕ → Chain P) → ((i : ℕ) → f i ≡ g i) → Exact r lines f → Exact r lines g
+pub exact_same : {S P : Type 0} (r : PieceReading S P) (lines : List Line) (f g : ℕ → Chain P) → ((i : ℕ) → f i ≡ g i) → Exact r lines f → Exact r lines g
 exact_same r lines f g s h = record { ordered = h.ordered; versions = λ q j pos k. h.versions q j pos k ∙ ap (λ c. written r j q pos c) (s j) }
 
-exact_within : {S P : Type 0} (r : Reading S P) (lines : List Line) (f : ℕ → Chain P) → Exact r lines f → (q j n : ℕ) → has n (f j) ≡ false → find j n (line_of lines q).versions ≡ None
+exact_within : {S P : Type 0} (r : PieceReading S P) (lines : List Line) (f : ℕ → Chain P) → Exact r lines f → (q j n : ℕ) → has n (f j) ≡ false → find j n (line_of lines q).versions ≡ None
 exact_within r lines f h q j n free = elim (cases_lt q (length lines)) [
   | inl k ↦ h.versions q j n k ∙ written_free r j q n (f j) free
   | inr k ↦ ap (λ (l : Line). find j n l.versions) (get_or_past lines q no_line k)
 ]
 
 -- a piece is pushed
-pub lines_more : {S P : Type 0} (r : Reading S P) (j : ℕ) (x : ℕ × P) (f : ℕ → Chain P) (lines : List Line) → AreWrites (length lines) (r.writes x.1) → has x.0 (f j) ≡ false → Exact r lines f →
+pub lines_more : {S P : Type 0} (r : PieceReading S P) (j : ℕ) (x : ℕ × P) (f : ℕ → Chain P) (lines : List Line) → AreWrites (length lines) (r.writes x.1) → has x.0 (f j) ≡ false → Exact r lines f →
     Exact r (with_piece r j x.0 x.1 lines) (with_chain f j (f j ++ x ∷ []))
 lines_more r j x f lines fit free h = record {
   ordered = λ q. subst (λ (l : Line). IsOrdered l.versions) (sym (at q)) (put_ordered (r.time x.1) j x.0 q (write_of q (r.writes x.1)) (line_of lines q) (exact_within r lines f h q j x.0 free) (h.ordered q));
@@ -85,7 +85,7 @@ lines_more r j x f lines fit free h = record {
     at q = each_at (put (r.time x.1) j x.0) (r.writes x.1) lines q fit
 
 -- a piece goes, wherever it stands
-pub lines_less : {S P : Type 0} (r : Reading S P) (j : ℕ) (a b : Chain P) (x : ℕ × P) (f : ℕ → Chain P) (lines : List Line) → AreWrites (length lines) (r.writes x.1) → f j ≡ a ++ x ∷ b → AreApart (a ++ x ∷ b) → Exact r lines f →
+pub lines_less : {S P : Type 0} (r : PieceReading S P) (j : ℕ) (a b : Chain P) (x : ℕ × P) (f : ℕ → Chain P) (lines : List Line) → AreWrites (length lines) (r.writes x.1) → f j ≡ a ++ x ∷ b → AreNumberedApart (a ++ x ∷ b) → Exact r lines f →
     Exact r (without_piece r j x.0 x.1 lines) (with_chain f j (a ++ b))
 lines_less r j a b x f lines fit is apart h = record {
   ordered = λ q. subst (λ (l : Line). IsOrdered l.versions) (sym (at q)) (drop_ordered j x.0 q (write_of q (r.writes x.1)) (line_of lines q) (h.ordered q));
@@ -116,7 +116,7 @@ pub chain_same : {P : Type 0} (f : ℕ → Chain P) (j : ℕ) (c : Chain P) → 
 chain_same f j c e i = by_bool (λ t. f i ≡ either t c (f i)) (nat_eq j i) (λ k. subst (λ (n : ℕ). f n ≡ c) (same_number j i k) e) (λ k. refl)
 
 -- all from one on go
-pub lines_cut : {S P : Type 0} (r : Reading S P) (j : ℕ) (a b : Chain P) (f : ℕ → Chain P) (lines : List Line) → AllFit r (length lines) b → f j ≡ a ++ b → AreApart (a ++ b) → Exact r lines f →
+pub lines_cut : {S P : Type 0} (r : PieceReading S P) (j : ℕ) (a b : Chain P) (f : ℕ → Chain P) (lines : List Line) → AllFit r (length lines) b → f j ≡ a ++ b → AreNumberedApart (a ++ b) → Exact r lines f →
     Exact r (without_pieces r j b lines) (with_chain f j a)
 lines_cut r j a [] f lines fit is apart h = exact_same r lines f (with_chain f j a) (chain_same f j a (is ∙ append-nil a)) h
 lines_cut {S} {P} r j a (x ∷ b) f lines fit is apart h =
@@ -127,7 +127,7 @@ lines_cut {S} {P} r j a (x ∷ b) f lines fit is apart h =
     (lines_less r j a b x f lines fit.0 is apart h))
 
 -- what is committed changes no version
-pub exact_commit : {S P : Type 0} (r : Reading S P) (ws : List (ℕ × ℕ)) (new : List ℕ) (lines : List Line) (f : ℕ → Chain P) → AreWrites (length lines) ws → Exact r lines f → Exact r (each (commit new) ws lines) f
+pub exact_commit : {S P : Type 0} (r : PieceReading S P) (ws : List (ℕ × ℕ)) (new : List ℕ) (lines : List Line) (f : ℕ → Chain P) → AreWrites (length lines) ws → Exact r lines f → Exact r (each (commit new) ws lines) f
 exact_commit r ws new lines f fit h = record {
   ordered = λ q. subst (λ (l : Line). IsOrdered l.versions) (sym (at q)) (subst (λ vs. IsOrdered vs) (sym (stays q (write_of q ws) (line_of lines q))) (h.ordered q));
   versions = λ q j pos k. ap (λ (l : Line). find j pos l.versions) (at q) ∙ (ap (λ vs. find j pos vs) (stays q (write_of q ws) (line_of lines q)) ∙ h.versions q j pos (subst (λ (n : ℕ). q < n) (length_each (commit new) ws lines) k));
@@ -140,11 +140,11 @@ exact_commit r ws new lines f fit h = record {
     stays q None l = refl
     stays q (Some v) l = refl
 
-pub length_without : {S P : Type 0} (r : Reading S P) (j : ℕ) (xs : Chain P) (lines : List Line) → length (without_pieces r j xs lines) ≡ length lines
+pub length_without : {S P : Type 0} (r : PieceReading S P) (j : ℕ) (xs : Chain P) (lines : List Line) → length (without_pieces r j xs lines) ≡ length lines
 length_without r j [] lines = refl
 length_without r j (x ∷ xs) lines = length_without r j xs (without_piece r j x.0 x.1 lines) ∙ length_each (withdraw j x.0) (r.writes x.1) lines
 
-pub committed_without : {S P : Type 0} (r : Reading S P) (j : ℕ) (xs : Chain P) (lines : List Line) (shared : List ℕ) → AllFit r (length lines) xs → AreCommitted lines shared → AreCommitted (without_pieces r j xs lines) shared
+pub committed_without : {S P : Type 0} (r : PieceReading S P) (j : ℕ) (xs : Chain P) (lines : List Line) (shared : List ℕ) → AllFit r (length lines) xs → AreCommitted lines shared → AreCommitted (without_pieces r j xs lines) shared
 committed_without r j [] lines shared fit h = h
 committed_without r j (x ∷ xs) lines shared fit h = committed_without r j xs (without_piece r j x.0 x.1 lines) shared (subst (λ n. AllFit r n xs) (sym (length_each (withdraw j x.0) (r.writes x.1) lines)) fit.1)
     (committed_kept (withdraw j x.0) (r.writes x.1) lines shared fit.0 (λ q v l. refl) h)

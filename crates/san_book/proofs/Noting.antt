@@ -8,7 +8,7 @@ use Rattle.san_base.proofs.Bools.{both_true}
 use Rattle.san_base.proofs.NumberTests.{number_turned, number_within}
 use Rattle.san_base.specs.declared.limits.Limits.{Limits}
 use Rattle.san_base.specs.declared.limits.TheConstants.{MAX_TOKENS}
-use Rattle.san_log.specs.Logs.{AgreesWith, Entry, find, found_by, noted, noted_by}
+use Rattle.san_log.specs.Logs.{AreEntriesOf, Entry, find, found_by, noted, noted_by}
 use Rattle.san_log.specs.Once.{AreOnce}
 use Rattle.san_book.specs.Machines.{Machine}
 use Rattle.san_book.specs.Lines.{agrees, is_value}
@@ -89,12 +89,12 @@ value_is v (Some w) h = ap (λ (n : ℕ). Some n) (eqb-true w v h)
 is_there : (v : ℕ) (o : Option ℕ) → o ≡ Some v → is_value v o ≡ true
 is_there v o h = ap (λ x. is_value v x) h ∙ eq-eqb v v refl
 
-agree_to : (es : List Entry) (shared : List ℕ) → agrees (slice_get shared) es ≡ true → AgreesWith es shared
+agree_to : (es : List Entry) (shared : List ℕ) → agrees (slice_get shared) es ≡ true → AreEntriesOf es shared
 agree_to [] shared h = tt
 agree_to (e ∷ es) shared h = let b = both_true (is_value e.1 (slice_get shared e.0.0)) (agrees (slice_get shared) es) h in
     (value_is e.1 (slice_get shared e.0.0) b.0, agree_to es shared b.1)
 
-agree_from : (es : List Entry) (shared : List ℕ) → AgreesWith es shared → agrees (slice_get shared) es ≡ true
+agree_from : (es : List Entry) (shared : List ℕ) → AreEntriesOf es shared → agrees (slice_get shared) es ≡ true
 agree_from [] shared h = refl
 agree_from (e ∷ es) shared h = ap (λ b. b && agrees (slice_get shared) es) (is_there e.1 (slice_get shared e.0.0) h.0) ∙ agree_from es shared h.1
 

@@ -5,9 +5,9 @@ use Rattle.std.proofs.lemmas.Bool.{cases_lt, eq-eqb, ne_eqb, true≢false}
 use Rattle.std.proofs.lemmas.List.{get_or-set_other, get_or-set_same, get_or_past}
 use Rattle.san_chain.specs.Chains.{end_from}
 use Rattle.san_line.proofs.Ordered.{by_bool}
-use Rattle.san_book.specs.Machines.{Machine, Reading}
+use Rattle.san_book.specs.Machines.{Machine, PieceReading}
 use Rattle.san_book.specs.Lines.{AreWrites}
-use Rattle.san_book.specs.Chains.{AllBelow, AllFit, AllMade, AreApart, Chain, Connects, chain_of, has}
+use Rattle.san_book.specs.Chains.{AreNumberedBelow, AllFit, AreMadeByLogs, AreNumberedApart, Chain, Connects, chain_of, has}
 use Rattle.san_book.specs.Whole.{IsChain}
 use Rattle.san_book.proofs.Each.{either}
 use Rattle.san_book.proofs.Written.{no_chain, with_chain}
@@ -31,7 +31,7 @@ chains_by {P} Q chains j c h here others = by_number (λ i. Q i (chain_of (slice
     (λ i d. subst (λ (x : Chain P). Q i x) (sym (get_or-set_other chains j i c no_chain d)) (others i d))
 
 -- numbers
-pub free_below : {P : Type 0} (n : ℕ) (xs : Chain P) → AllBelow n xs → has n xs ≡ false
+pub free_below : {P : Type 0} (n : ℕ) (xs : Chain P) → AreNumberedBelow n xs → has n xs ≡ false
 free_below n [] h = refl
 free_below n (x ∷ xs) h = ap (λ b. b || has n xs) (ne_eqb x.0 n (λ e. omega (arith, e, h.0))) ∙ free_below n xs h.1
 
@@ -43,38 +43,38 @@ has_push n (y ∷ ys) x h k = both (nat_eq y.0 n) (has n ys) h (λ e. has_push n
     both true b e f = cc
     both false b e f = f e
 
-apart_push : {P : Type 0} (n : ℕ) (xs : Chain P) (p : P) → AllBelow n xs → AreApart xs → AreApart (xs ++ (n, p) ∷ [])
+apart_push : {P : Type 0} (n : ℕ) (xs : Chain P) (p : P) → AreNumberedBelow n xs → AreNumberedApart xs → AreNumberedApart (xs ++ (n, p) ∷ [])
 apart_push n [] p b h = (refl, tt)
 apart_push n (y ∷ ys) p b h = (has_push y.0 ys (n, p) h.0 (ne_eqb n y.0 (λ e. omega (arith, e, b.0))), apart_push n ys p b.1 h.1)
 
-below_push : {P : Type 0} (n : ℕ) (xs : Chain P) (p : P) → AllBelow n xs → AllBelow (suc n) (xs ++ (n, p) ∷ [])
+below_push : {P : Type 0} (n : ℕ) (xs : Chain P) (p : P) → AreNumberedBelow n xs → AreNumberedBelow (suc n) (xs ++ (n, p) ∷ [])
 below_push n [] p h = (omega arith, tt)
 below_push n (y ∷ ys) p h = (omega (arith, h.0), below_push n ys p h.1)
 
-pub below_grow : {P : Type 0} (a b : ℕ) (xs : Chain P) → a ≤ b → AllBelow a xs → AllBelow b xs
+pub below_grow : {P : Type 0} (a b : ℕ) (xs : Chain P) → a ≤ b → AreNumberedBelow a xs → AreNumberedBelow b xs
 below_grow a b [] l h = tt
 below_grow a b (x ∷ xs) l h = (omega (arith, l, h.0), below_grow a b xs l h.1)
 
 -- writes and logs
-fit_push : {S P : Type 0} (r : Reading S P) (k : ℕ) (xs : Chain P) (x : ℕ × P) → AreWrites k (r.writes x.1) → AllFit r k xs → AllFit r k (xs ++ x ∷ [])
+fit_push : {S P : Type 0} (r : PieceReading S P) (k : ℕ) (xs : Chain P) (x : ℕ × P) → AreWrites k (r.writes x.1) → AllFit r k xs → AllFit r k (xs ++ x ∷ [])
 fit_push r k [] x w h = (w, tt)
 fit_push r k (y ∷ ys) x w h = (h.0, fit_push r k ys x w h.1)
 
-pub fit_back : {S P : Type 0} (r : Reading S P) (n k : ℕ) (xs : Chain P) → AllFit r n xs → AllFit r n (drop k xs)
+pub fit_back : {S P : Type 0} (r : PieceReading S P) (n k : ℕ) (xs : Chain P) → AllFit r n xs → AllFit r n (drop k xs)
 fit_back r n zero xs h = h
 fit_back r n (suc k) [] h = tt
 fit_back r n (suc k) (x ∷ xs) h = fit_back r n k xs h.1
 
-made_push : {H S P : Type 0} (m : Machine H S P) (j : ℕ) (xs : Chain P) (x : ℕ × P) → m.makes j (m.reading.base x.1) (m.reading.kind x.1) (m.reading.time x.1) (m.reading.log x.1) ≡ Some x.1 → AllMade m j xs → AllMade m j (xs ++ x ∷ [])
+made_push : {H S P : Type 0} (m : Machine H S P) (j : ℕ) (xs : Chain P) (x : ℕ × P) → m.makes j (m.reading.base x.1) (m.reading.kind x.1) (m.reading.time x.1) (m.reading.log x.1) ≡ Some x.1 → AreMadeByLogs m j xs → AreMadeByLogs m j (xs ++ x ∷ [])
 made_push m j [] x w h = (w, tt)
 made_push m j (y ∷ ys) x w h = (h.0, made_push m j ys x w h.1)
 
 -- joins
-pub connects_push : {S P : Type 0} (r : Reading S P) (s : S) (xs : Chain P) (x : ℕ × P) → r.base x.1 ≡ end_from r.end s xs → Connects r s xs → Connects r s (xs ++ x ∷ [])
+pub connects_push : {S P : Type 0} (r : PieceReading S P) (s : S) (xs : Chain P) (x : ℕ × P) → r.base x.1 ≡ end_from r.end s xs → Connects r s xs → Connects r s (xs ++ x ∷ [])
 connects_push r s [] x e h = (e, tt)
 connects_push r s (y ∷ ys) x e h = (h.0, connects_push r (r.end y.1) ys x e h.1)
 
-pub connects_front : {S P : Type 0} (r : Reading S P) (s : S) (k : ℕ) (xs : Chain P) → Connects r s xs → Connects r s (take k xs)
+pub connects_front : {S P : Type 0} (r : PieceReading S P) (s : S) (k : ℕ) (xs : Chain P) → Connects r s xs → Connects r s (take k xs)
 connects_front r s zero xs h = tt
 connects_front r s (suc k) [] h = tt
 connects_front r s (suc k) (x ∷ xs) h = (h.0, connects_front r (r.end x.1) k xs h.1)

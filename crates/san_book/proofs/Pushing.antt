@@ -8,7 +8,7 @@ use Rattle.san_book.specs.Lines.{AreWrites, put}
 use Rattle.san_book.specs.Chains.{Chain, Connects, chain_of, with_piece}
 use Rattle.san_book.specs.Cores.{Core, Pending, claim_of}
 use Rattle.san_book.specs.Steps.{chain_end, pushed, with_claim}
-use Rattle.san_book.specs.Whole.{IsChain, IsMade, IsWhole}
+use Rattle.san_book.specs.Whole.{IsChain, IsAsAsked, IsWhole}
 use Rattle.san_book.proofs.Each.{committed_kept, length_each}
 use Rattle.san_book.proofs.Moves.{exact_same, lines_more}
 use Rattle.san_book.proofs.Parts.{chain_push, chains_by, connects_push, free_below, set_chain}
@@ -16,7 +16,7 @@ use Rattle.san_book.proofs.Claims.{claims_less}
 use Rattle.san_book.proofs.Written.{with_chain}
 
 -- a piece that was made as it was asked for is what its own log makes
-pub remade : {H S P : Type 0} (m : Machine H S P) (j : ℕ) (base : S) (kind : Kind) (time : ℕ) (log : List Entry) (p : P) → IsMade m.reading m.width base kind time log p → m.makes j base kind time log ≡ Some p →
+pub remade : {H S P : Type 0} (m : Machine H S P) (j : ℕ) (base : S) (kind : Kind) (time : ℕ) (log : List Entry) (p : P) → IsAsAsked m.reading m.width base kind time log p → m.makes j base kind time log ≡ Some p →
     m.makes j (m.reading.base p) (m.reading.kind p) (m.reading.time p) (m.reading.log p) ≡ Some p
 remade m j base kind time log p i e =
     ap (λ b. m.makes j b (m.reading.kind p) (m.reading.time p) (m.reading.log p)) i.based

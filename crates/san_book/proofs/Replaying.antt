@@ -15,9 +15,9 @@ use Rattle.san_book.specs.Chains.{Chain, Connects, chain_of, written}
 use Rattle.san_book.specs.Cores.{Core, Pending, Step, bare_line, claim_of, opened}
 use Rattle.san_book.specs.Steps.{then_by}
 use Rattle.san_book.specs.Journals.{Replays, replayed, stepped}
-use Rattle.san_book.specs.Whole.{IsChain, IsCommitted, IsLawful, HasValues, IsWhole}
+use Rattle.san_book.specs.Whole.{IsChain, IsCommitted, IsLawfulMachine, HasValues, IsWhole}
 use Rattle.san_book.specs.Bounds.{IsBounded, IsBrief, IsCounted, claims_by, pieces_in, steps_of}
-use Rattle.san_book.specs.Laws.{After, EveryRun, IsCore, JournalGoesOn, JournalIsShort, OpensWell, ReadsFit, RollbacksAreFew, RunsAreBrief}
+use Rattle.san_book.specs.Laws.{After, EveryRun, IsCore, JournalGoesOn, JournalIsShort, OpensWhole, ReadsFit, RollbacksAreFew, RunsAreBrief}
 use Rattle.san_book.proofs.Bounding.{steps_bound}
 use Rattle.san_book.proofs.Briefness.{steps_are_brief}
 use Rattle.san_book.proofs.Committing.{steps_commit}
@@ -122,11 +122,11 @@ module _ {H S P : Type 0} (m : Machine H S P) (limits : Limits) (workers : ℕ) 
   opened_core : HasValues m start → IsCore m limits workers start first
   opened_core h = record { chains = length-replicate (m.leaves start) []; claims = length-replicate (suc workers) None; whole = opened_whole h; committed = refl; bounded = opened_bounded; counted = opened_counted }
 
-pub opens_well : {H S P : Type 0} (m : Machine H S P) → OpensWell m
+pub opens_well : {H S P : Type 0} (m : Machine H S P) → OpensWhole m
 opens_well m limits workers start h = (opened_core m limits workers start h, opened_brief m limits workers start)
 
 -- each step leads from one core to another
-step_core : {H S P : Type 0} (m : Machine H S P) → IsLawful m → (limits : Limits) (workers : ℕ) (start : H) (c d : Core H P) (s : Step) → IsCore m limits workers start c → stepped m limits s c ≡ Some d → IsCore m limits workers start d
+step_core : {H S P : Type 0} (m : Machine H S P) → IsLawfulMachine m → (limits : Limits) (workers : ℕ) (start : H) (c d : Core H P) (s : Step) → IsCore m limits workers start c → stepped m limits s c ≡ Some d → IsCore m limits workers start d
 step_core {H} {S} {P} m law limits workers start c d s h e = let z : SameSizes c d = read_after (SameSizes c) (stepped m limits s c) d (sizes_stay m limits c s) e in record {
   chains = z.leaves ∙ h.chains;
   claims = z.workers ∙ h.claims;
@@ -136,7 +136,7 @@ step_core {H} {S} {P} m law limits workers start c d s h e = let z : SameSizes c
   counted = read_after IsCounted (stepped m limits s c) d (steps_count m limits c s h.whole h.counted) e;
 }
 
-run_from : {H S P : Type 0} (m : Machine H S P) → IsLawful m → (limits : Limits) (workers : ℕ) (start : H) (ss : List Step) (c d : Core H P) → IsCore m limits workers start c → replayed m limits ss c ≡ Some d → IsCore m limits workers start d × (d.journal ≡ c.journal ++ ss)
+run_from : {H S P : Type 0} (m : Machine H S P) → IsLawfulMachine m → (limits : Limits) (workers : ℕ) (start : H) (ss : List Step) (c d : Core H P) → IsCore m limits workers start c → replayed m limits ss c ≡ Some d → IsCore m limits workers start d × (d.journal ≡ c.journal ++ ss)
 run_from {H} {S} {P} m law limits workers start [] c d h e = subst (λ (x : Core H P). IsCore m limits workers start x × (x.journal ≡ c.journal ++ [])) (some_same c d e) (h, sym (append-nil c.journal))
 run_from {H} {S} {P} m law limits workers start (s ∷ ss) c d h e = by_first (stepped m limits s c) (λ b k. step_core m law limits workers start c b s h k)
     (λ b k. read_after (λ (b : Core H P). b.journal ≡ c.journal ++ s ∷ []) (stepped m limits s c) b (steps_are_booked m limits c s) k)
@@ -148,10 +148,10 @@ run_from {H} {S} {P} m law limits workers start (s ∷ ss) c d h e = by_first (s
     by_first None core books go e = absurd (none_some d e)
     by_first (Some b) core books go e = let r = go b (core b refl) e in (r.0, r.1 ∙ (ap (λ (xs : List Step). xs ++ ss) (books b refl) ∙ append_assoc c.journal (s ∷ []) ss))
 
-pub every_run : {H S P : Type 0} (m : Machine H S P) → IsLawful m → EveryRun m
+pub every_run : {H S P : Type 0} (m : Machine H S P) → IsLawfulMachine m → EveryRun m
 every_run m law limits workers start ss c h e = run_from m law limits workers start ss (opened m workers start) c (opened_core m limits workers start h) e
 
-pub rollbacks_are_few : {H S P : Type 0} (m : Machine H S P) → IsLawful m → RollbacksAreFew m
+pub rollbacks_are_few : {H S P : Type 0} (m : Machine H S P) → IsLawfulMachine m → RollbacksAreFew m
 rollbacks_are_few {H} {S} {P} m law limits workers start ss c h e =
     let r : IsCore m limits workers start c = (every_run m law limits workers start ss c h e).0 in
     let b : c.rollbacks + (pieces_in c.chains + claims_by (λ p. 1) c.claims) ≤ limits.rollbacks + (length c.chains * limits.window + length c.claims) = r.bounded.rollbacks in
@@ -159,7 +159,7 @@ rollbacks_are_few {H} {S} {P} m law limits workers start ss c h e =
     let w = r.claims in omega (arith, b, p, w)
 
 -- brief cores
-pub runs_are_brief : {H S P : Type 0} (m : Machine H S P) → IsLawful m → RunsAreBrief m
+pub runs_are_brief : {H S P : Type 0} (m : Machine H S P) → IsLawfulMachine m → RunsAreBrief m
 runs_are_brief {H} {S} {P} m law limits [] c d whole bounded brief fits e = subst (λ (x : Core H P). IsBrief limits x) (some_same c d e) brief
 runs_are_brief {H} {S} {P} m law limits (s ∷ ss) c d whole bounded brief fits e = by_first (stepped m limits s c) fits.1
     (λ b k. read_after (IsWhole m) (stepped m limits s c) b (steps_keep m law limits c s whole) k)
@@ -176,7 +176,7 @@ runs_are_brief {H} {S} {P} m law limits (s ∷ ss) c d whole bounded brief fits 
 times : (a b x y : ℕ) → a ≤ x → b ≤ y → a * b ≤ x * y
 times a b x y h k = let p : a * b ≤ a * y = mul-le-mul_left a k in let q : y * a ≤ y * x = mul-le-mul_left y h in let r : a * y ≡ y * a = mul_comm a y in let s : x * y ≡ y * x = mul_comm x y in omega (arith, p, q, r, s)
 
-pub journal_is_short : {H S P : Type 0} (m : Machine H S P) → IsLawful m → JournalIsShort m
+pub journal_is_short : {H S P : Type 0} (m : Machine H S P) → IsLawfulMachine m → JournalIsShort m
 journal_is_short {H} {S} {P} m law limits workers start ss c few leaves window values fits e =
     let o : IsCore m limits workers start (opened m workers start) = opened_core m limits workers start values in
     let r : IsCore m limits workers start c = (every_run m law limits workers start ss c values e).0 in

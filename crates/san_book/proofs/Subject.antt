@@ -20,7 +20,7 @@ use Rattle.san_law.proofs.Frames.{others_stay, own_is_the_pieces, unwritten_stay
 use Rattle.san_law.proofs.Places.{length_put, or_next_none}
 use Rattle.san_book.specs.Lines.{AreWrites, agrees, is_value, write_of}
 use Rattle.san_book.specs.Plans.{when}
-use Rattle.san_book.specs.Whole.{IsMade}
+use Rattle.san_book.specs.Whole.{IsAsAsked}
 use Rattle.san_book.specs.Nets.{Ahead, NetIsLawful, ahead, is_logged, is_there, logged, of_outcome, places_in, same_bool, same_list, same_row, same_state, same_timer, shared_in, values_from}
 use Rattle.san_book.proofs.Each.{either}
 use Rattle.san_book.proofs.Noting.{value_is}
@@ -209,7 +209,7 @@ net_is_lawful net kinds places laid = record {
   own = λ c j p l s. own_is_the_pieces net c j p.kind p.time p.outcome l (not_stopped (law.taken net c j p.kind p.time p.outcome).stop s);
   grows = λ c j p. events_more net c j p.kind p.time p.outcome;
   made = λ j base kind time log p e. let i = made_is (is_logged (places_in net j) log) (ahead net j base kind time log) p e in
-      subst (λ (x : Ahead). IsMade of_outcome net.shared base kind time log x) i.1
+      subst (λ (x : Ahead). IsAsAsked of_outcome net.shared base kind time log x) i.1
       (record { based = refl; kinded = refl; timed = refl; logged = refl; fits = piece_fits net places laid j kind time base (values_from 0 net.shared log) });
   needed = λ c values j kind time. (
     ap (λ b. when b (Some (ahead net j (law.leaf_of c j) kind time (logged (places_in net j) c.shared)))) (logged_is (places_in net j) c.shared),

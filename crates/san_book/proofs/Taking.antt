@@ -6,10 +6,10 @@ use Rattle.std.proofs.lemmas.List.{length-set}
 use Rattle.san_law.specs.Piece.{Kind}
 use Rattle.san_book.specs.Machines.{Machine, is_of}
 use Rattle.san_book.specs.Lines.{AreWrites, Line, commit, withdraw}
-use Rattle.san_book.specs.Chains.{AllMade, Chain, Connects, chain_of, without_piece}
+use Rattle.san_book.specs.Chains.{AreMadeByLogs, Chain, Connects, chain_of, without_piece}
 use Rattle.san_book.specs.Cores.{Core}
 use Rattle.san_book.specs.Steps.{cut_at, fallen, falls, redone, taken_anew, taken_head}
-use Rattle.san_book.specs.Whole.{IsChain, IsLawful, IsWhole}
+use Rattle.san_book.specs.Whole.{IsChain, IsLawfulMachine, IsWhole}
 use Rattle.san_book.proofs.Each.{committed_kept, committed_new, length_each}
 use Rattle.san_book.proofs.Moves.{exact_commit, exact_same, lines_less}
 use Rattle.san_book.proofs.Parts.{chain_grow, chain_rest, chains_by, set_chain, within}
@@ -17,7 +17,7 @@ use Rattle.san_book.proofs.Cutting.{cut_whole}
 use Rattle.san_book.proofs.Written.{with_chain}
 
 -- the head of a chain is taken
-module _ {H S P : Type 0} (m : Machine H S P) (law : IsLawful m) (c : Core H P) (j : ℕ) (x : ℕ × P) (rest : Chain P) (h : IsWhole m c) (goes : m.stopped c.held ≡ false) (is : chain_of c.chains j ≡ x ∷ rest) where
+module _ {H S P : Type 0} (m : Machine H S P) (law : IsLawfulMachine m) (c : Core H P) (j : ℕ) (x : ℕ × P) (rest : Chain P) (h : IsWhole m c) (goes : m.stopped c.held ≡ false) (is : chain_of c.chains j ≡ x ∷ rest) where
   abbrev new : List ℕ
   new = m.shared (m.takes c.held j x.1)
 
@@ -72,7 +72,7 @@ counter_grows (n ∷ ns) (suc j) zero = omega arith
 counter_grows (n ∷ ns) (suc j) (suc i) = counter_grows ns j i
 
 -- a chain that stays begins with the leaf's state
-stays_where : {H S P : Type 0} (m : Machine H S P) (law : IsLawful m) (kind : Kind) (time : ℕ) (s : S) (xs : Chain P) (b : S) → falls m kind time s xs ≡ false → Connects m.reading b xs → Connects m.reading s xs
+stays_where : {H S P : Type 0} (m : Machine H S P) (law : IsLawfulMachine m) (kind : Kind) (time : ℕ) (s : S) (xs : Chain P) (b : S) → falls m kind time s xs ≡ false → Connects m.reading b xs → Connects m.reading s xs
 stays_where m law kind time s [] b e h = tt
 stays_where m law kind time s (x ∷ xs) b e h = ((law.same (m.reading.base x.1) s).0 (base_is (is_of m.reading kind time x.1) (nat_lt (m.reading.time x.1) time) (m.same (m.reading.base x.1) s) e), h.1)
   where
@@ -88,7 +88,7 @@ falls_some m kind time s [] e = absurd (true≢false (sym e))
 falls_some m kind time s (x ∷ xs) e = omega arith
 
 -- a piece is made anew
-module _ {H S P : Type 0} (m : Machine H S P) (law : IsLawful m) (c : Core H P) (j : ℕ) (kind : Kind) (time : ℕ) (h : IsWhole m c) (goes : m.stopped c.held ≡ false) where
+module _ {H S P : Type 0} (m : Machine H S P) (law : IsLawfulMachine m) (c : Core H P) (j : ℕ) (kind : Kind) (time : ℕ) (h : IsWhole m c) (goes : m.stopped c.held ≡ false) where
   abbrev made : P
   made = m.needed c.held j kind time
 
@@ -101,7 +101,7 @@ module _ {H S P : Type 0} (m : Machine H S P) (law : IsLawful m) (c : Core H P) 
   fits_made : AreWrites (length c.lines) (m.reading.writes made)
   fits_made = subst (λ (s : ℕ). AreWrites s (m.reading.writes made)) (sym h.lines) (law.made j (m.state c.held j) kind time (m.reading.log made) made (law.needed c.held h.width j kind time).0).fits
 
-  all_still : (i : ℕ) (xs : Chain P) → AllMade m i xs → AllMade (still m) i xs
+  all_still : (i : ℕ) (xs : Chain P) → AreMadeByLogs m i xs → AreMadeByLogs (still m) i xs
   all_still i [] a = tt
   all_still i (x ∷ xs) a = (a.0, all_still i xs a.1)
 
@@ -124,7 +124,7 @@ module _ {H S P : Type 0} (m : Machine H S P) (law : IsLawful m) (c : Core H P) 
   others_connect : (i : ℕ) → i ≢ j → Connects m.reading (m.state (m.takes c.held j made) i) (chain_of c.chains i)
   others_connect i d = subst (λ (b : S). Connects m.reading b (chain_of c.chains i)) (sym (law.others c.held j i made d)) (h.connects goes i)
 
-  back_still : (i : ℕ) (xs : Chain P) → AllMade (still m) i xs → AllMade m i xs
+  back_still : (i : ℕ) (xs : Chain P) → AreMadeByLogs (still m) i xs → AreMadeByLogs m i xs
   back_still i [] a = tt
   back_still i (x ∷ xs) a = (a.0, back_still i xs a.1)
 

@@ -3,7 +3,7 @@ use Rattle.std.specs.Prelude.{ℕ, suc, ◌+◌, ◌*◌, ◌≡◌, ◌≤◌, 
 use Rattle.san_base.specs.declared.limits.Limits.{Limits}
 use Rattle.san_base.specs.declared.limits.TheConstants.{MAX_CELLS, MAX_LEAVES, MAX_WINDOW, MAX_WORKERS}
 use Rattle.san_base.specs.declared.piece.Kind as named
-use Rattle.san_log.specs.Logs.{AgreesWith, Entry}
+use Rattle.san_log.specs.Logs.{AreEntriesOf, Entry}
 use Rattle.san_log.specs.Once.{AreNoted}
 use Rattle.san_line.specs.declared.version.Version.{Version}
 use Rattle.san_line.specs.Lines.{find as find_version, first_by}
@@ -85,8 +85,8 @@ pub record IsCore {H S P : Type 0} (m : Machine H S P) (limits : Limits) (worker
   pub counted : IsCounted c
 
 -- an opened core is one
-abbrev pub OpensWell : {H S P : Type 0} → Machine H S P → Type 0
-OpensWell {H} {S} {P} m = (limits : Limits) (workers : ℕ) (start : H) → HasValues m start → IsCore m limits workers start (opened m workers start) × IsBrief limits (opened m workers start)
+abbrev pub OpensWhole : {H S P : Type 0} → Machine H S P → Type 0
+OpensWhole {H} {S} {P} m = (limits : Limits) (workers : ℕ) (start : H) → HasValues m start → IsCore m limits workers start (opened m workers start) × IsBrief limits (opened m workers start)
 
 -- and so is every core that any steps lead to
 abbrev pub EveryRun : {H S P : Type 0} → Machine H S P → Type 0
@@ -119,14 +119,14 @@ abbrev pub RestsOrEnded : {H S P : Type 0} → Machine H S P → Type 0
 RestsOrEnded {H} {S} {P} m = (limits : Limits) (c : Core H P) (w n : ℕ) → goes_on m limits c ≡ false → (stepped m limits (Claim w) c ≡ None) × (stepped m limits (Commit w n) c ≡ None) × (stepped m limits (Redo w) c ≡ None)
 
 -- the claimed leaf is free, and none that is free comes before it by time and leaf
-pub record IsLeast (f : ℕ → Option ℕ) (count : ℕ) (x : ℕ × ℕ) : Type 0 where
+pub record IsLeastFree (f : ℕ → Option ℕ) (count : ℕ) (x : ℕ × ℕ) : Type 0 where
   pub leaf : x.1 < count
   pub free : f x.1 ≡ Some x.0
   pub least : (i t : ℕ) → i < count → f i ≡ Some t → first_by x.0 t (nat_le x.1 i) ≡ true
 
 -- the planned leaf is the least that is free
 abbrev pub PlansLeast : {H S P : Type 0} → Machine H S P → Type 0
-PlansLeast {H} {S} {P} m = (limits : Limits) (c : Core H P) (x : ℕ × ℕ) → planned m limits c ≡ Some x → IsLeast (free_at m limits c) (length c.chains) x
+PlansLeast {H} {S} {P} m = (limits : Limits) (c : Core H P) (x : ℕ × ℕ) → planned m limits c ≡ Some x → IsLeastFree (free_at m limits c) (length c.chains) x
 
 -- and where none is planned, none is free
 abbrev pub PlansNone : {H S P : Type 0} → Machine H S P → Type 0
@@ -165,4 +165,4 @@ LinesAreOne {H} {S} {P} m = (c d : Core H P) → IsWhole m c → IsWhole m d →
 
 -- a log agrees with values as a read log does
 abbrev pub AgreesIsAgreesWith : List Entry → List ℕ → Type 0
-AgreesIsAgreesWith es shared = IsTrue (agrees (slice_get shared) es) ↔ AgreesWith es shared
+AgreesIsAgreesWith es shared = IsTrue (agrees (slice_get shared) es) ↔ AreEntriesOf es shared

@@ -7,7 +7,7 @@ use Rattle.san_law.specs.Piece.{Fire, Kind, Refresh, Settle}
 use Rattle.san_law.specs.Order.{Finished, Need, Needs, Order, need_of}
 
 -- how a piece is read: its kind, its time, the states of its leaf before and after it, what it read of which shared places, what it writes, whether its leaf had more to do, and whether it came to a trap
-pub record Reading (S P : Type 0) : Type 0 where
+pub record PieceReading (S P : Type 0) : Type 0 where
   pub kind : P → Kind
   pub time : P → ℕ
   pub base : P → S
@@ -19,7 +19,7 @@ pub record Reading (S P : Type 0) : Type 0 where
 
 -- a committed part of type H, over leaf states of type S and pieces of type P
 pub record Machine (H S P : Type 0) : Type 0 where
-  pub reading : Reading S P
+  pub reading : PieceReading S P
   -- how many shared places there are, and those of each leaf
   pub width : ℕ
   pub places : ℕ → List ℕ
@@ -62,7 +62,7 @@ sees_all Settle = false
 sees_all Refresh = true
 
 -- a piece is of this kind and time
-abbrev pub is_of : {S P : Type 0} → Reading S P → Kind → ℕ → P → Bool
+abbrev pub is_of : {S P : Type 0} → PieceReading S P → Kind → ℕ → P → Bool
 is_of r kind time p = is_kind (r.kind p) kind && nat_eq (r.time p) time
 
 -- the needed piece is taken, where one is needed

@@ -11,11 +11,11 @@ use Rattle.san_law.specs.Core as law
 use Rattle.san_law.specs.Lawful.{IsLaid}
 use Rattle.san_law.specs.Standing.{Follows}
 use Rattle.san_law.specs.Starts.{IsStart}
-use Rattle.san_book.specs.Machines.{Machine, Reading}
+use Rattle.san_book.specs.Machines.{Machine, PieceReading}
 use Rattle.san_book.specs.Cores.{Core, Step, opened}
 use Rattle.san_book.specs.Plans.{when}
 use Rattle.san_book.specs.Journals.{replayed}
-use Rattle.san_book.specs.Whole.{HasValues, IsLawful}
+use Rattle.san_book.specs.Whole.{HasValues, IsLawfulMachine}
 
 -- a piece that was made ahead: its kind and time, the leaf's state before it, what it read, and what it made
 pub record Ahead : Type 0 where
@@ -31,7 +31,7 @@ is_there None = false
 is_there (Some x) = true
 
 -- how it is read
-abbrev pub of_outcome : Reading LeafState Ahead
+abbrev pub of_outcome : PieceReading LeafState Ahead
 of_outcome = record {
   kind = λ p. p.kind;
   time = λ p. p.time;
@@ -128,7 +128,7 @@ machine_of net kinds = record {
 
 -- it is as the book asks, where the network's places are laid out apart
 abbrev pub NetIsLawful : Net → (ℕ → named.Kind → Option Kind) → Type 0
-NetIsLawful net kinds = (places : ℕ) → IsLaid net places → IsLawful (machine_of net kinds)
+NetIsLawful net kinds = (places : ℕ) → IsLaid net places → IsLawfulMachine (machine_of net kinds)
 
 -- whatever is done to a core that was opened over a start, what it has committed follows the run
 abbrev pub EveryRunFollows : Net → (ℕ → named.Kind → Option Kind) → Type 0

@@ -4,13 +4,13 @@ use Rattle.san_base.specs.declared.limits.Limits.{Limits}
 use Rattle.san_log.specs.Logs.{Entry}
 use Rattle.san_law.specs.Step.{Event}
 use Rattle.san_law.specs.Piece.{Kind}
-use Rattle.san_book.specs.Machines.{Machine, Reading, after_pieces}
+use Rattle.san_book.specs.Machines.{Machine, PieceReading, after_pieces}
 use Rattle.san_book.specs.Lines.{AreCommitted, AreWrites, agrees, write_of}
-use Rattle.san_book.specs.Chains.{AllBelow, AllFit, AllMade, AreApart, Chain, Connects, Exact, chain_of}
+use Rattle.san_book.specs.Chains.{AreNumberedBelow, AllFit, AreMadeByLogs, AreNumberedApart, Chain, Connects, Exact, chain_of}
 use Rattle.san_book.specs.Cores.{Core, Pending, claim_of}
 
 -- a piece is what was asked for, and writes shared places alone, each once
-pub record IsMade {S P : Type 0} (r : Reading S P) (width : ℕ) (base : S) (kind : Kind) (time : ℕ) (log : List Entry) (p : P) : Type 0 where
+pub record IsAsAsked {S P : Type 0} (r : PieceReading S P) (width : ℕ) (base : S) (kind : Kind) (time : ℕ) (log : List Entry) (p : P) : Type 0 where
   pub based : r.base p ≡ base
   pub kinded : r.kind p ≡ kind
   pub timed : r.time p ≡ time
@@ -22,7 +22,7 @@ abbrev pub HasValues : {H S P : Type 0} → Machine H S P → H → Type 0
 HasValues m h = length (m.shared h) ≡ m.width
 
 -- what a committed part and its pieces have to be
-pub record IsLawful {H S P : Type 0} (m : Machine H S P) : Type 0 where
+pub record IsLawfulMachine {H S P : Type 0} (m : Machine H S P) : Type 0 where
   -- taking a piece changes no sizes, no other leaf's state, and no value that it doesn't write; the leaf's own state is the piece's end where it comes to no stop; the events grow
   pub sizes : (h : H) (j : ℕ) (p : P) → length (m.shared (m.takes h j p)) ≡ length (m.shared h)
   pub leaves : (h : H) (j : ℕ) (p : P) → m.leaves (m.takes h j p) ≡ m.leaves h
@@ -31,7 +31,7 @@ pub record IsLawful {H S P : Type 0} (m : Machine H S P) : Type 0 where
   pub own : (h : H) (j : ℕ) (p : P) → j < m.leaves h → m.stopped (m.takes h j p) ≡ false → m.state (m.takes h j p) j ≡ m.reading.end p
   pub grows : (h : H) (j : ℕ) (p : P) → (es : List Event) × (m.events (m.takes h j p) ≡ m.events h ++ es)
   -- a piece is made as it was asked for; the needed one is made by a log that agrees with what is committed, and any other such piece is taken as it is
-  pub made : (j : ℕ) (base : S) (kind : Kind) (time : ℕ) (log : List Entry) (p : P) → m.makes j base kind time log ≡ Some p → IsMade m.reading m.width base kind time log p
+  pub made : (j : ℕ) (base : S) (kind : Kind) (time : ℕ) (log : List Entry) (p : P) → m.makes j base kind time log ≡ Some p → IsAsAsked m.reading m.width base kind time log p
   pub needed : (h : H) → HasValues m h → (j : ℕ) (kind : Kind) (time : ℕ) → let p = m.needed h j kind time in (m.makes j (m.state h j) kind time (m.reading.log p) ≡ Some p) × (agrees (slice_get (m.shared h)) (m.reading.log p) ≡ true)
   pub sound : (h : H) (j : ℕ) (kind : Kind) (time : ℕ) (log : List Entry) (p : P) → m.makes j (m.state h j) kind time log ≡ Some p → agrees (slice_get (m.shared h)) log ≡ true → m.takes h j p ≡ m.takes h j (m.needed h j kind time)
   -- the test on states is their equality
@@ -39,10 +39,10 @@ pub record IsLawful {H S P : Type 0} (m : Machine H S P) : Type 0 where
 
 -- a leaf's chain: no number twice, each below the leaf's next one, and pieces that their logs make
 pub record IsChain {H S P : Type 0} (m : Machine H S P) (j next : ℕ) (chain : Chain P) : Type 0 where
-  pub apart : AreApart chain
-  pub below : AllBelow next chain
+  pub apart : AreNumberedApart chain
+  pub below : AreNumberedBelow next chain
   pub fit : AllFit m.reading m.width chain
-  pub made : AllMade m j chain
+  pub made : AreMadeByLogs m j chain
 
 -- what every core keeps
 pub record IsWhole {H S P : Type 0} (m : Machine H S P) (c : Core H P) : Type 0 where

@@ -1,14 +1,14 @@
 //! The laws of a core's steps.
 
 ghost use Rattle.san_book.specs.Machines.{Machine};
-ghost use Rattle.san_book.specs.Whole.{IsLawful};
-ghost use Rattle.san_book.specs.Laws.{EventsGrow, EveryRun, GoesOnByRedo, JournalGoesOn, JournalIsShort, OpensWell, PlansLeast, PlansNone, RestsOrEnded, RollbacksAreFew, RunsAreBrief, StepsAreBooked, StepsAreBrief, StepsBound, StepsCommit, StepsCount, StepsKeep, StepsLeave};
+ghost use Rattle.san_book.specs.Whole.{IsLawfulMachine};
+ghost use Rattle.san_book.specs.Laws.{EventsGrow, EveryRun, GoesOnByRedo, JournalGoesOn, JournalIsShort, OpensWhole, PlansLeast, PlansNone, RestsOrEnded, RollbacksAreFew, RunsAreBrief, StepsAreBooked, StepsAreBrief, StepsBound, StepsCommit, StepsCount, StepsKeep, StepsLeave};
 
 /// Each step keeps a core whole: the lines are the committed values and the chains' writes, and the
 /// chains go on from what is committed. Only a commit and a redo change what is committed.
 #[tactic(auto, using(crate::proofs::Keeping::steps_keep, crate::proofs::Committing::steps_leave))]
 pub fn a_step_keeps_a_core_whole<H, S, P>()
-    ensures whole { (m : Machine H S P) → IsLawful m → StepsKeep m }
+    ensures whole { (m : Machine H S P) → IsLawfulMachine m → StepsKeep m }
     ensures leave { (m : Machine H S P) → StepsLeave m }
 {}
 
@@ -16,8 +16,8 @@ pub fn a_step_keeps_a_core_whole<H, S, P>()
 /// committed event is taken back.
 #[tactic(auto, using(crate::proofs::Committing::steps_commit, crate::proofs::Committing::events_grow))]
 pub fn what_is_committed_is_needed<H, S, P>()
-    ensures pieces { (m : Machine H S P) → IsLawful m → StepsCommit m }
-    ensures events { (m : Machine H S P) → IsLawful m → EventsGrow m }
+    ensures pieces { (m : Machine H S P) → IsLawfulMachine m → StepsCommit m }
+    ensures events { (m : Machine H S P) → IsLawfulMachine m → EventsGrow m }
 {}
 
 /// No leaf is claimed twice, no chain is longer than the window, and the rollbacks stay within
@@ -25,7 +25,7 @@ pub fn what_is_committed_is_needed<H, S, P>()
 #[tactic(auto, using(crate::proofs::Bounding::steps_bound))]
 pub fn rollbacks_are_bounded<H, S, P>()
     ensures step { (m : Machine H S P) → StepsBound m }
-    ensures run { (m : Machine H S P) → IsLawful m → RollbacksAreFew m }
+    ensures run { (m : Machine H S P) → IsLawfulMachine m → RollbacksAreFew m }
 {}
 
 /// The numbers of claims, late ones, committed and redone pieces are the journal's.
@@ -38,8 +38,8 @@ pub fn counts_are_the_journals<H, S, P>()
 #[tactic(auto, using(crate::proofs::Briefness::steps_are_brief))]
 pub fn a_journal_is_bounded<H, S, P>()
     ensures step { (m : Machine H S P) → StepsAreBrief m }
-    ensures steps { (m : Machine H S P) → IsLawful m → RunsAreBrief m }
-    ensures run { (m : Machine H S P) → IsLawful m → JournalIsShort m }
+    ensures steps { (m : Machine H S P) → IsLawfulMachine m → RunsAreBrief m }
+    ensures run { (m : Machine H S P) → IsLawfulMachine m → JournalIsShort m }
 {}
 
 /// Each step is booked, and a journal that replays goes on replaying.
@@ -52,8 +52,8 @@ pub fn a_journal_goes_on<H, S, P>()
 /// Whatever steps an opened core comes to, it is whole, bounded and counted, what is committed is
 /// what is needed, and its journal is those steps.
 pub fn every_run_keeps_the_law<H, S, P>()
-    ensures opening { (m : Machine H S P) → OpensWell m }
-    ensures run { (m : Machine H S P) → IsLawful m → EveryRun m }
+    ensures opening { (m : Machine H S P) → OpensWhole m }
+    ensures run { (m : Machine H S P) → IsLawfulMachine m → EveryRun m }
 {}
 
 /// A core that goes on can redo; one that has ended or rests neither claims nor commits nor redoes.

@@ -4,7 +4,7 @@ use Rattle.std.proofs.Common.{◌≡◌, ℕ, ◌+◌, ◌<◌, ◌≤◌, false
 use Rattle.std.proofs.lemmas.Bool.{ltb-false, leb-false}
 use Rattle.std.proofs.lemmas.List.Elements.{All-cons, All-nil}
 use Rattle.std.proofs.lemmas.List.Sums.{sum_by-cons}
-use Rattle.san_delay.specs.Sound.{IsDelay, IsSound}
+use Rattle.san_delay.specs.Sound.{IsDelay, IsSoundDelay}
 use Rattle.san_text.specs.declared.syntax.DistDecl.{DistDecl}
 use Rattle.san_text.specs.declared.syntax.DistDecl.TheVariants as dist
 use Rattle.san_expr.specs.Below.{places_below, dist_below}
@@ -61,7 +61,7 @@ table_free n s (e ∷ es) few most f =
       some = λ h. omega (arith, total, last);
     }
 
-pub dist_good : (places : Places) (cells : CellTable) (k : ℕ) → Placed places cells k → (d : DistDecl) → IsFormedDist d → Free (dist_entries places d) → GoodPart (dist_below (dist_of cells d) k) (dist_has_lengths (dist_of cells d)) (IsSound (dist_of cells d))
+pub dist_good : (places : Places) (cells : CellTable) (k : ℕ) → Placed places cells k → (d : DistDecl) → IsFormedDist d → Free (dist_entries places d) → GoodPart (dist_below (dist_of cells d) k) (dist_has_lengths (dist_of cells d)) (IsSoundDelay (dist_of cells d))
 unfolding dist_entries dist_of
 dist_good places cells k at (dist.Det e) formed f = let g = expr_good places cells k at e f in record { below = g.0; lengths = g.1; accepted = tt }
 dist_good places cells k at (dist.Uniform a b) formed f =

@@ -3,7 +3,7 @@
 
 ghost use Rattle.std.specs.Prelude.{◌≡◌, length, IsTrue, IfOk};
 ghost use Rattle.san_clock.specs.inner.Asking.{truth};
-ghost use Rattle.san_delay.specs.Sound.{IsDelay, IsSound};
+ghost use Rattle.san_delay.specs.Sound.{IsDelay, IsSoundDelay};
 ghost use Rattle.san_expr.specs.Below.{dist_below, places_below};
 ghost use Rattle.san_expr.specs.Delay.{delay_of};
 ghost use Rattle.san_net.specs.Below.{activity_below};
@@ -49,7 +49,7 @@ pub(crate) fn delay_in<V: PlainView>(
     u: u64,
     view: &mut V,
 ) -> Result<u64, Trap>
-    requires sound { IsSound delay.now }
+    requires sound { IsSoundDelay delay.now }
     requires places { IsTrue (dist_below delay.now (length (V.values view.old))) }
     ensures answer { result ≡ (delay_of delay.now u (V.values view.old)).answer }
     ensures within { IfOk result IsDelay }

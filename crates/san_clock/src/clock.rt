@@ -6,7 +6,7 @@ ghost use Rattle.san_base.specs.declared.ending.Trap.{Trap};
 ghost use Rattle.san_base.specs.declared.limits.TheConstants.{MAX_DRAWS, MAX_TIME};
 ghost use Rattle.san_clock.specs.Rows.{timer_in};
 ghost use Rattle.san_clock.specs.inner.Clocks.{anew_by, clock_by, enabled_by, pair_below, renewed_in, timed_at};
-ghost use Rattle.san_delay.specs.Sound.{IsSound};
+ghost use Rattle.san_delay.specs.Sound.{IsSoundDelay};
 ghost use Rattle.san_draw.specs.Key.{draw_of};
 ghost use Rattle.san_expr.specs.Below.{dist_below};
 ghost use Rattle.san_expr.specs.Delay.{delay_of};
@@ -48,7 +48,7 @@ fn activate<V: PlainView, D: DrawSource>(
     n: u64,
     view: &mut V,
 ) -> Result<Clock, Trap>
-    requires sound { IsSound delay.now }
+    requires sound { IsSoundDelay delay.now }
     requires delay { IsTrue (dist_below delay.now (length (V.values view.old))) }
     requires pair { IsTrue (pair_below pair.now (length (V.values view.old))) }
     requires stream { stream < D.streams draws.old }
@@ -103,7 +103,7 @@ fn keep_or_activate<V: PlainView, D: DrawSource>(
     clock: Clock,
     view: &mut V,
 ) -> Result<Clock, Trap>
-    requires sound { IsSound delay.now }
+    requires sound { IsSoundDelay delay.now }
     requires delay { IsTrue (dist_below delay.now (length (V.values view.old))) }
     requires pair { IsTrue (pair_below pair.now (length (V.values view.old))) }
     requires stream { stream < D.streams draws.old }

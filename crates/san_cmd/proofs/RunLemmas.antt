@@ -20,7 +20,7 @@ use Rattle.san_serve.specs.Notes.{IsLine}
 use Rattle.san_serve.specs.Settled.{IsHindered}
 use Rattle.san_serve.specs.declared.task.Served.{Served}
 use Rattle.san_serve.specs.declared.task.Served.TheVariants as served
-use Rattle.san_cmd.specs.Runs.{Ran, RefusesFrom, RunRefuses, Runs, RunsFrom, output_of, run_by, run_meaning}
+use Rattle.san_cmd.specs.Runs.{Ran, RefusesFrom, RunRefuses, RunsWords, RunsFrom, output_of, run_by, run_meaning}
 use Rattle.san_cmd.specs.Settled.{Settles}
 use Rattle.san_cmd.specs.inner.Heard.{HeardAnswers, HeardRefuses, IsUnread}
 use Rattle.san_cmd.proofs.SettledLemmas.{run_settled}
@@ -34,7 +34,7 @@ ran_text o network (served.Refused refusal) text old new is h = absurd h
 
 -- what is answered to words, by what was heard of them
 pub record Answered (app : App) (Say : Texts → Orders → Type 0) (words : List Text) (s : Status) (left rest old new : Option (List ℕ)) : Type 0 where
-  pub answer : Runs app Say words s left rest old new
+  pub answer : RunsWords app Say words s left rest old new
   pub refused : s ≡ status.Words → IsTaken app words → ⊥
   pub taken : (IsTaken app words → ⊥) → (s ≡ status.Words) ⊎ (s ≡ status.NoMemory)
 
@@ -60,7 +60,7 @@ nothing_written None o left rest old new h = h
 nothing_written (Some made) o left rest old new h = h.1
 
 module _ (app : App) (Say : Texts → Orders → Type 0) (words : List Text) where
-  ordered : (o : Orders) (s : Status) (left rest old new : Option (List ℕ)) → Hears Say app words (heard.Run o) → HeardAnswers (heard.Run o) s left rest old new → Runs app Say words s left rest old new
+  ordered : (o : Orders) (s : Status) (left rest old new : Option (List ℕ)) → Hears Say app words (heard.Run o) → HeardAnswers (heard.Run o) s left rest old new → RunsWords app Say words s left rest old new
   ordered o status.Done left rest old new h a = (o, h.0, h.1, a.0)
   ordered o status.Stopped left rest old new h a = (o, h.0, h.1, a.0)
   ordered o status.Refused left rest old new h a = (o, h.0, h.1, a.0)
@@ -76,12 +76,12 @@ module _ (app : App) (Say : Texts → Orders → Type 0) (words : List Text) whe
     taken = λ no. absurd (no h.0);
   }
   heard_answers heard.Refused s left rest old new h a = record {
-    answer = subst (λ (x : Status). Runs app Say words x left rest old new) (sym a.0) (h, a.1, a.2);
+    answer = subst (λ (x : Status). RunsWords app Say words x left rest old new) (sym a.0) (h, a.1, a.2);
     refused = λ e t. h t;
     taken = λ no. inl a.0;
   }
   heard_answers heard.NoMemory s left rest old new h a = record {
-    answer = subst (λ (x : Status). Runs app Say words x left rest old new) (sym a.0) a.2;
+    answer = subst (λ (x : Status). RunsWords app Say words x left rest old new) (sym a.0) a.2;
     refused = λ e t. absurd cc;
     taken = λ no. inr a.0;
   }

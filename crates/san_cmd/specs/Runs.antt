@@ -67,7 +67,7 @@ abbrev pub RunRefuses : App → (Texts → Orders → Type 0) → List Text → 
 RunRefuses app Say words left rest refusal = (o : Orders) × IsTaken app words × Say (texts_of app words) o × RefusesFrom o.make left rest refusal
 
 -- by the status: the command took the words, and what they order was run
-abbrev pub Runs : App → (Texts → Orders → Type 0) → List Text → Status → Option (List ℕ) → Option (List ℕ) → Option (List ℕ) → Option (List ℕ) → Type 0
-Runs app Say words status.Words left rest old new = (IsTaken app words → ⊥) × (rest ≡ left) × (new ≡ old)
-Runs app Say words status.NoMemory left rest old new = new ≡ old
-Runs app Say words s left rest old new = (o : Orders) × IsTaken app words × Say (texts_of app words) o × RunsFrom o.make o s left rest old new
+abbrev pub RunsWords : App → (Texts → Orders → Type 0) → List Text → Status → Option (List ℕ) → Option (List ℕ) → Option (List ℕ) → Option (List ℕ) → Type 0
+RunsWords app Say words status.Words left rest old new = (IsTaken app words → ⊥) × (rest ≡ left) × (new ≡ old)
+RunsWords app Say words status.NoMemory left rest old new = new ≡ old
+RunsWords app Say words s left rest old new = (o : Orders) × IsTaken app words × Say (texts_of app words) o × RunsFrom o.make o s left rest old new

@@ -11,7 +11,7 @@ ghost use Rattle.san_serve.specs.Settled.{IsHindered};
 ghost use Rattle.san_words.specs.Commands.{IsTaken, plain_app, run_app};
 ghost use Rattle.san_words.specs.Hears.{CanMake, CanRun, OrdersSay, PlainSay, is_given, texts_of};
 ghost use Rattle.san_words.specs.declared.options.NumberOption.TheVariants.{Make};
-ghost use Rattle.san_cmd.specs.Runs.{Ran, RefusesFrom, RunRefuses, Runs, RunsFrom, made_text};
+ghost use Rattle.san_cmd.specs.Runs.{Ran, RefusesFrom, RunRefuses, RunsWords, RunsFrom, made_text};
 ghost use Rattle.san_cmd.specs.Runs.{output_of, run_by, run_meaning};
 ghost use Rattle.san_cmd.specs.Settled.{Settles};
 ghost use Rattle.san_cmd.specs.inner.Heard.{HeardAnswers, HeardRefuses, IsUnread};
@@ -38,7 +38,7 @@ fn put_run<K: Sink>(run: Run<'_>, make: Option<Made>, sink: &mut K) -> Result<En
     }
 }
 
-/// Runs a network, and puts what is to be seen of the run.
+/// RunsWords a network, and puts what is to be seen of the run.
 fn run_network<K: Sink>(alloc: Global, flat: &Flat, orders: Orders, sink: &mut K) -> Served
     requires { IsInRange orders.limits }
     ensures answer { Ran (output_of orders.make (run_by flat.now orders)) (run_by flat.now orders)
@@ -80,7 +80,7 @@ impl Task for RunModel {
     }
 }
 
-/// Runs a generated model.
+/// RunsWords a generated model.
 fn run_made<K: Sink, N: Sink>(
     alloc: Global,
     orders: Orders,
@@ -102,7 +102,7 @@ fn run_made<K: Sink, N: Sink>(
     serve_text_noted(alloc, &RunModel { orders }, text.as_slice(), sink, notes)
 }
 
-/// Runs the model text that the source gives, or a generated one.
+/// RunsWords the model text that the source gives, or a generated one.
 fn run_ordered<S: Source, K: Sink, N: Sink>(
     alloc: Global,
     orders: Orders,
@@ -128,7 +128,7 @@ fn run_ordered<S: Source, K: Sink, N: Sink>(
     }
 }
 
-/// Runs what was heard of words.
+/// RunsWords what was heard of words.
 fn run_heard<S: Source, K: Sink, N: Sink>(
     alloc: Global,
     heard: Heard,
@@ -154,7 +154,7 @@ fn run_heard<S: Source, K: Sink, N: Sink>(
     }
 }
 
-/// Runs the model text that the source gives, as the words order it, in one thread, and puts its
+/// RunsWords the model text that the source gives, as the words order it, in one thread, and puts its
 /// report into the sink, and a line on what went wrong into the notes. Where the words say that the
 /// model is generated, nothing is read, and the report's summary is put. All memory of the run is
 /// taken before the first byte is put. A note that fails changes no status.
@@ -172,7 +172,7 @@ pub fn plain_words<S: Source, K: Sink, N: Sink>(
     ensures unread { result ≡ Status.Words → (source.new ≡ source.old) × (sink.new ≡ sink.old) }
     ensures generated { is_given (texts_of plain_app (map string_bytes words.now)) Make ≡ true
         → source.new ≡ source.old }
-    ensures answer { Runs plain_app PlainSay (map string_bytes words.now) result
+    ensures answer { RunsWords plain_app PlainSay (map string_bytes words.now) result
         (S.left source.old) (S.left source.new) (K.held sink.old) (K.held sink.new) }
     ensures complete { IsTaken plain_app (map string_bytes words.now) → IsHindered result
         ⊎ ((orders : Orders) × PlainSay (texts_of plain_app (map string_bytes words.now)) orders
@@ -187,7 +187,7 @@ pub fn plain_words<S: Source, K: Sink, N: Sink>(
     run_heard(alloc, heard, source, sink, notes)
 }
 
-/// Runs the model text that the source gives, as the words of `sanrun` order it, and puts its report
+/// RunsWords the model text that the source gives, as the words of `sanrun` order it, and puts its report
 /// into the sink, and a line on what went wrong into the notes; a generated model as `plain_words`
 /// does. How far ahead the words order the run
 /// to be, and in how many threads, has no effect. A note that fails changes no status.
@@ -205,7 +205,7 @@ pub fn run_words<S: Source, K: Sink, N: Sink>(
     ensures unread { result ≡ Status.Words → (source.new ≡ source.old) × (sink.new ≡ sink.old) }
     ensures generated { is_given (texts_of run_app (map string_bytes words.now)) Make ≡ true
         → source.new ≡ source.old }
-    ensures answer { Runs run_app OrdersSay (map string_bytes words.now) result
+    ensures answer { RunsWords run_app OrdersSay (map string_bytes words.now) result
         (S.left source.old) (S.left source.new) (K.held sink.old) (K.held sink.new) }
     ensures complete { IsTaken run_app (map string_bytes words.now) → IsHindered result
         ⊎ ((orders : Orders) × OrdersSay (texts_of run_app (map string_bytes words.now)) orders

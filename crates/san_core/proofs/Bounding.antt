@@ -14,7 +14,7 @@ use Rattle.san_net.specs.Leaf.{activities_from, impulse_in, leaf_of, rate_in, sl
 use Rattle.san_net.specs.Network.{Network, net_of}
 use Rattle.san_net.specs.declared.atomic.ImpulseTerm.{ImpulseTerm}
 use Rattle.san_net.specs.declared.part.Part.{Part}
-use Rattle.san_core.specs.inner.Suits.{IsBounded}
+use Rattle.san_core.specs.inner.Suits.{FitsLists}
 use Rattle.san_core.proofs.Suiting.{all_of, of_none}
 use Rattle.san_reward.proofs.Making.{with_first}
 
@@ -92,7 +92,7 @@ renewed_long draw p time seen l r is =
     let draws : ℕ → ℕ → ℕ = λ k. draw (leaf.delay_stream p k) in
     fresh_long (length l.row.timers) l.row.cases (renewed_acts draws time seen l.values 0 p.activities l.row.timers l.row.delays) r is (acts_long draws time seen l.values 0 p.activities l.row.timers l.row.delays)
 
-pub networks_are_bounded : (n : Network) → IsNetwork n → (draw : ℕ → ℕ → ℕ) (limits : Limits) → IsBounded (net_of n draw limits)
+pub networks_are_bounded : (n : Network) → IsNetwork n → (draw : ℕ → ℕ → ℕ) (limits : Limits) → FitsLists (net_of n draw limits)
 networks_are_bounded n is draw limits = record {
   known = λ j k l d done.
       let part = slice_index_or (map leaf_of n.parts) j no_part in

@@ -12,7 +12,7 @@ use Rattle.san_law.specs.Core.{Core, leaf_of}
 use Rattle.san_law.specs.Net.{Net, Row, Slot, Timer, is_bare, least_timer, least_timer_from, no_row, no_timers, sooner_act}
 use Rattle.san_law.specs.Network.{Limits}
 use Rattle.san_law.specs.Piece.{LeafState, privates}
-use Rattle.san_law.specs.Standing.{Serves, Stands, upto}
+use Rattle.san_law.specs.Standing.{ServesRenewal, Stands, upto}
 use Rattle.san_law.specs.State.{State, blank_row, blank_rows, gather, opening_state, part_of, place_of, row_of, slots_of}
 use Rattle.san_law.specs.Step.{Event}
 use Rattle.san_law.proofs.Orders.{below_upto}
@@ -180,7 +180,7 @@ module _ (n : Network) (network : IsNetwork n) (draw : ℕ → ℕ → ℕ) (lim
       values_long : (m : List ℕ) → length (gather (slots_of here j) m) ≡ length p.atomic.initial
       values_long m = gather_long (slots_of here j) m ∙ places_long
 
-      served_seen : Serves here j l.seen (gather (slots_of here j) s.stable) l.row → Seen
+      served_seen : ServesRenewal here j l.seen (gather (slots_of here j) s.stable) l.row → Seen
       served_seen (inl e) = kept_seen (here.paired j) (gather (slots_of here j) s.stable) refl e (values_long s.stable)
       served_seen (inr h) = (inl h.0, λ q. inl h.1)
 

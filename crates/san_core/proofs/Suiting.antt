@@ -17,7 +17,7 @@ use Rattle.san_law.specs.Standing.{Stands}
 use Rattle.san_law.proofs.Least.{least_is_before}
 use Rattle.san_law.proofs.Orders.{due_within}
 use Rattle.san_reward.proofs.Making.{with_first}
-use Rattle.san_core.specs.inner.Suits.{IsBounded, Renews, Suits}
+use Rattle.san_core.specs.inner.Suits.{FitsLists, Renews, Suits}
 
 -- what holds of what the items are made into
 pub all_of : {X Y : Type 0} (P : Y → Type 0) (f : X → Y) (xs : List X) → All P (map f xs) → All (λ x. P (f x)) xs
@@ -28,7 +28,7 @@ all_of P f (x ∷ xs) h (suc k) d l = all_of P f xs (λ i e m. h (suc i) e (omeg
 pub of_none : {X : Type 0} (P : X → Type 0) → All P []
 of_none P k d l = absurd (omega (arith, l))
 
-module _ (net : Net) (law : IsLawful net) (bounded : IsBounded net) where
+module _ (net : Net) (law : IsLawful net) (bounded : FitsLists net) where
   -- completions as the code's lists hold them
   record Good (n : ℕ) (cs : List Completion) : Type 0 where
     few : length cs ≤ n

@@ -32,7 +32,7 @@ use Rattle.san_reward.specs.Running.{Running, no_rates}
 use Rattle.san_reward.proofs.Sameness.{worth_same}
 use Rattle.san_core.specs.Machines.{FollowsRun, MachineValue, core_in, net_in, opened}
 use Rattle.san_core.specs.Nets.{outcome_in}
-use Rattle.san_core.specs.Whole.{IsWhole}
+use Rattle.san_core.specs.Whole.{IsWholeRun}
 
 -- a core whose outcome is the end has no stop but that, and else needs nothing
 abbrev ending_or : Ending → Option (ℕ × Ending) → Ending
@@ -76,7 +76,7 @@ module _ (m : MachineValue) (run : FollowsRun m) (lawful : IsLawful (net_in m)) 
   ending_of e (Some x) = x
 
   abbrev IsWholeHere : named.Ending → Type 0
-  IsWholeHere e = IsWhole here m.network m.events e m.held.running
+  IsWholeHere e = IsWholeRun here m.network m.events e m.held.running
 
   worth_is : (r : ℕ) → HasFinished here c → r < length here.spans → tally_worth (rewards.net_in m.held.running) m.held.running.tally m.held.running.time r ≡ worth here r (opening_state here) c.events
   worth_is r fin within =
@@ -101,13 +101,13 @@ module _ (m : MachineValue) (run : FollowsRun m) (lawful : IsLawful (net_in m)) 
 
 -- the machine as it is seen
 pub whole_seen : (m v : MachineValue) → m ≡ v → FollowsRun m → Known m.network → v.start.core ≡ with_rates (map no_rates v.network.parts) (opening_core (net_in v)) → m.held.core.stop ≢ Some End
-    → (events : List Event) (e : named.Ending) (tally : Running) → events ≡ m.events → tally ≡ m.held.running → Some e ≡ outcome_in v.network (outcome_of_core (net_in v) (core_in v)) → IsWhole (net_in v) v.network events e tally
+    → (events : List Event) (e : named.Ending) (tally : Running) → events ≡ m.events → tally ≡ m.held.running → Some e ≡ outcome_in v.network (outcome_of_core (net_in v) (core_in v)) → IsWholeRun (net_in v) v.network events e tally
 whole_seen m v is run k first no_end events e tally told counted ended =
     let first_here : m.start.core ≡ with_rates (map no_rates m.network.parts) (opening_core (net_in m)) = subst (λ (x : MachineValue). x.start.core ≡ with_rates (map no_rates x.network.parts) (opening_core (net_in x))) (sym is) first in
     let ended_here : Some e ≡ outcome_in m.network (outcome_of_core (net_in m) (core_in m)) = subst (λ (x : MachineValue). Some e ≡ outcome_in x.network (outcome_of_core (net_in x) (core_in x))) (sym is) ended in
-    subst (λ (x : MachineValue). IsWhole (net_in x) x.network events e tally) is
-    (subst (λ (es : List Event). IsWhole (net_in m) m.network es e tally) (sym told)
-    (subst (λ (t : Running). IsWhole (net_in m) m.network m.events e t) (sym counted)
+    subst (λ (x : MachineValue). IsWholeRun (net_in x) x.network events e tally) is
+    (subst (λ (es : List Event). IsWholeRun (net_in m) m.network es e tally) (sym told)
+    (subst (λ (t : Running). IsWholeRun (net_in m) m.network m.events e t) (sym counted)
     (whole m run (k.lawful (draw_of m.seed) (limits_in m.limits)) (k.laid (draw_of m.seed) (limits_in m.limits)) first_here no_end e ended_here)))
 
 -- a machine that was opened over the first start, and has gone on
@@ -134,8 +134,8 @@ module _ (n : Network) (seed : ℕ) (limits : Limits) (s : CommittedValue) (a b 
       (subst (λ (y : Limits). HasFirst n seed y b.start) (sym limits_is)
       (subst (λ (y : CommittedValue). HasFirst n seed limits y) (sym start_is) h)))
 
-  pub whole_of_run : (events : List Event) (e : named.Ending) (tally : Running) → IsWhole (net_in b) b.network events e tally → IsWhole (net_at n seed limits) n events e tally
+  pub whole_of_run : (events : List Event) (e : named.Ending) (tally : Running) → IsWholeRun (net_in b) b.network events e tally → IsWholeRun (net_at n seed limits) n events e tally
   whole_of_run events e tally h =
-      subst (λ (y : Network). IsWhole (net_at y seed limits) y events e tally) network_is
-      (subst (λ (y : ℕ). IsWhole (net_at b.network y limits) b.network events e tally) seed_is
-      (subst (λ (y : Limits). IsWhole (net_at b.network b.seed y) b.network events e tally) limits_is h))
+      subst (λ (y : Network). IsWholeRun (net_at y seed limits) y events e tally) network_is
+      (subst (λ (y : ℕ). IsWholeRun (net_at b.network y limits) b.network events e tally) seed_is
+      (subst (λ (y : Limits). IsWholeRun (net_at b.network b.seed y) b.network events e tally) limits_is h))

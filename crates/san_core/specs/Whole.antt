@@ -14,7 +14,7 @@ use Rattle.san_reward.specs.Running as rewards
 use Rattle.san_reward.specs.Running.{Running}
 
 -- the events and the ending are the trajectory's, in the network's numbers; where it comes to the horizon, the tally has each reward's worth
-pub record IsWhole (net : Net) (n : Network) (events : List Event) (ending : Ending) (tally : Running) : Type 0 where
+pub record IsWholeRun (net : Net) (n : Network) (events : List Event) (ending : Ending) (tally : Running) : Type 0 where
   pub run : Trajectory
   pub is : trajectory net (opening_state net) ≡ Some run
   pub told : events ≡ map (event_in n) run.events

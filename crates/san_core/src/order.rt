@@ -9,7 +9,7 @@ ghost use Rattle.san_net.specs.Runs.{net_at};
 ghost use Rattle.san_reward.specs.Running.{no_rates};
 ghost use Rattle.san_core.specs.Machines.{core_in, net_in};
 ghost use Rattle.san_core.specs.Nets.{outcome_in};
-ghost use Rattle.san_core.specs.Whole.{IsWhole};
+ghost use Rattle.san_core.specs.Whole.{IsWholeRun};
 
 use crate::machine::Machine;
 use crate::start::Start;
@@ -33,7 +33,7 @@ impl Machine {
             ≡ with_rates (map no_rates self.network.parts) (opening_core (net_in self)) }
         requires ended { Some ending
             ≡ outcome_in self.network (outcome_of_core (net_in self) (core_in self)) }
-        ensures { IsWhole (net_in self) self.network result.events.items result.ending result.tally }
+        ensures { IsWholeRun (net_in self) self.network result.events.items result.ending result.tally }
     {
         self.flat.get().is_network();
         self.held.has_a_stop_before_the_end();
@@ -55,7 +55,7 @@ pub fn run_order(
     limits: Limits,
 ) -> Result<Ran, NoMemory>
     requires { IsInRange limits }
-    ensures { IfOk result (λ r. IsWhole (net_at flat.now seed limits) flat.now r.events.items
+    ensures { IfOk result (λ r. IsWholeRun (net_at flat.now seed limits) flat.now r.events.items
         r.ending r.tally) }
 {
     let start = Start::first(alloc, flat.get(), limits)?;

@@ -39,7 +39,7 @@ use Rattle.san_book.specs.Lines.{AreWrites, agrees, is_value}
 use Rattle.san_book.specs.Machines.{advance, after_pieces, take_need}
 use Rattle.san_book.specs.Nets.{is_there, or_zero, same_list, same_state, values_from}
 use Rattle.san_book.specs.Plans.{when}
-use Rattle.san_book.specs.Whole.{HasValues, IsLawful, IsMade}
+use Rattle.san_book.specs.Whole.{HasValues, IsLawfulMachine, IsAsAsked}
 use Rattle.san_book.proofs.Following.{IsShared, shared_below, value_from}
 use Rattle.san_book.proofs.Noting.{value_is}
 use Rattle.san_book.proofs.Replaying.{every_run}
@@ -237,8 +237,8 @@ module _ (n : Network) (network : IsNetwork n) (seed : ℕ) (limits : Limits) wh
       parts : (same_list same_read (reads vs) (map pair_in log) ≡ true) × (piece_from n seed limits j base kind time vs (map pair_in log) ≡ made)
       parts = made_is (same_list same_read (reads vs) (map pair_in log)) (piece_from n seed limits j base kind time vs (map pair_in log)) made is
 
-      made_as : IsMade of_piece n.shared base kind time log made
-      made_as = subst (λ (x : PieceValue). IsMade of_piece n.shared base kind time log x) parts.1
+      made_as : IsAsAsked of_piece n.shared base kind time log made
+      made_as = subst (λ (x : PieceValue). IsAsAsked of_piece n.shared base kind time log x) parts.1
           (record { based = refl; kinded = kind_back p.first.0 kind; timed = refl; logged = entries_back log; fits = writes_fit j kind time base vs })
 
       -- over values that agree with it the same is made
@@ -262,7 +262,7 @@ module _ (n : Network) (network : IsNetwork n) (seed : ℕ) (limits : Limits) wh
       ∙ ap (λ (t : ℕ). taken of_run c j (kind_in (part_at n j).first.0 (named_in (part_at n j).first.0 kind)) t made.outcome) (made_time j (leaf_of c j) kind time log made is)
       ∙ ap (taken of_run c j (kind_in (part_at n j).first.0 (named_in (part_at n j).first.0 kind)) time) (made_over j (leaf_of c j) kind time log made is c.shared agree)
 
-  pub lawful_book : IsLawful (book_of n seed limits)
+  pub lawful_book : IsLawfulMachine (book_of n seed limits)
   lawful_book = record {
     sizes = λ c j p. shared_long of_run c j (kind_in p.part.first.0 p.kind) p.time p.outcome;
     leaves = λ c j p. leaves_long of_run c j (kind_in p.part.first.0 p.kind) p.time p.outcome;

@@ -24,10 +24,10 @@ use Rattle.san_net.specs.declared.part.Part.{Part}
 use Rattle.san_book.specs.Cores as book
 use Rattle.san_book.specs.Cores.{Step, opened}
 use Rattle.san_book.specs.Journals.{replayed}
-use Rattle.san_book.specs.Machines.{Machine, Reading}
+use Rattle.san_book.specs.Machines.{Machine, PieceReading}
 use Rattle.san_book.specs.Nets.{is_there, places_in, same_list, same_state, values_from}
 use Rattle.san_book.specs.Plans.{when}
-use Rattle.san_book.specs.Whole.{HasValues, IsLawful}
+use Rattle.san_book.specs.Whole.{HasValues, IsLawfulMachine}
 
 -- the part of a leaf that isn't there
 abbrev pub no_part : Part
@@ -66,7 +66,7 @@ abbrev pub entry_of : ℕ × ℕ → Entry
 entry_of x = (record { 0 = x.0 }, x.1)
 
 -- how a piece is read
-abbrev pub of_piece : Reading LeafState PieceValue
+abbrev pub of_piece : PieceReading LeafState PieceValue
 of_piece = record {
   kind = λ p. kind_in p.part.first.0 p.kind;
   time = λ p. p.time;
@@ -126,7 +126,7 @@ book_of n seed limits = record {
 
 -- it is as the book asks
 abbrev pub BookIsLawful : Network → Type 0
-BookIsLawful n = (seed : ℕ) (limits : Limits) → IsLawful (book_of n seed limits)
+BookIsLawful n = (seed : ℕ) (limits : Limits) → IsLawfulMachine (book_of n seed limits)
 
 -- whatever is done to a core that was opened over a start of the run, what it has committed follows the run
 abbrev pub EveryCoreFollows : Network → Type 0

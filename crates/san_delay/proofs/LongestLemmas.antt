@@ -12,7 +12,7 @@ use Rattle.san_expr.specs.Value.{value_of}
 use Rattle.san_expr.specs.declared.dist.Dist.{Dist}
 use Rattle.san_expr.specs.declared.dist.Dist.TheVariants.{Det, Uniform, Geom, Table}
 use Rattle.san_delay.specs.Longest.{IsNoLonger, IsLongest, longest_of, upper, greatest}
-use Rattle.san_delay.specs.Sound.{IsDelay, IsSound, IsTable}
+use Rattle.san_delay.specs.Sound.{IsDelay, IsSoundDelay, IsTable}
 use Rattle.san_delay.proofs.SeriesLemmas.{geometric_falls}
 use Rattle.san_delay.proofs.TableLemmas.{first_delay, weight, chosen_most, chosen_greatest}
 
@@ -85,7 +85,7 @@ table_longest entries table =
       given = (p.0, p.1, ap Ok (ap (first_delay 0 entries) p.2 ∙ r.3));
     }
 
-pub longest_is : (d : Dist) (m : List ℕ) → IsSound d → IsLongest (λ u. (delay_of d u m).answer) (longest_of d m).answer
+pub longest_is : (d : Dist) (m : List ℕ) → IsSoundDelay d → IsLongest (λ u. (delay_of d u m).answer) (longest_of d m).answer
 longest_is (Det e) m sound = always (longest_of (Det e) m).answer
 longest_is (Uniform low high) m sound =
     by_first (value_of low) (value_of high) (λ u x y. between u (ticks_of x) (ticks_of y)) (λ x y. upper (ticks_of x) (ticks_of y))

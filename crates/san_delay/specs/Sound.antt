@@ -22,8 +22,8 @@ pub record IsTable (entries : List (ℕ × ℕ)) : Type 0 where
   pub delays : All (λ e. IsDelay e.0) entries
   pub weights : (1 ≤ sum (map (λ e. e.1) entries)) × (sum (map (λ e. e.1) entries) ≤ MAX_WEIGHT)
 
-abbrev pub IsSound : Dist → Type 0
-IsSound (dist.Det e) = Unit {0}
-IsSound (dist.Uniform low high) = Unit {0}
-IsSound (dist.Geom p q) = IsChance p q
-IsSound (dist.Table entries) = IsTable entries
+abbrev pub IsSoundDelay : Dist → Type 0
+IsSoundDelay (dist.Det e) = Unit {0}
+IsSoundDelay (dist.Uniform low high) = Unit {0}
+IsSoundDelay (dist.Geom p q) = IsChance p q
+IsSoundDelay (dist.Table entries) = IsTable entries

@@ -2,7 +2,7 @@
 
 ghost use Rattle.std.specs.Prelude.{IfOk, IsTrue};
 ghost use Rattle.san_delay.specs.Longest.{longest_of};
-ghost use Rattle.san_delay.specs.Sound.{IsDelay, IsSound};
+ghost use Rattle.san_delay.specs.Sound.{IsDelay, IsSoundDelay};
 ghost use Rattle.san_expr.specs.Below.{dist_below};
 ghost use Rattle.san_expr.specs.Delay.{delay_of};
 ghost use Rattle.san_expr.specs.Meets.{Evaluates};
@@ -15,7 +15,7 @@ use san_expr::{Dist, Marked};
 /// ticks whose chance to go on, out of 2^64, is at most the draw. `Trap::Delay` is answered after the
 /// traps of the expressions (own rules).
 pub fn delay<V: Marked>(d: &Dist, u: u64, view: &mut V) -> Result<u64, Trap>
-    requires sound { IsSound d.now }
+    requires sound { IsSoundDelay d.now }
     requires places { IsTrue (dist_below d.now (V.view_state view.old).places) }
     ensures value { Evaluates (V.view_state view.old) (V.view_state view.new) (delay_of d.now u) result }
     ensures within { IfOk result IsDelay }
@@ -30,7 +30,7 @@ pub fn delay<V: Marked>(d: &Dist, u: u64, view: &mut V) -> Result<u64, Trap>
 
 /// The longest delay of a distribution over all draws, in ticks.
 pub fn longest<V: Marked>(d: &Dist, view: &mut V) -> Result<u64, Trap>
-    requires sound { IsSound d.now }
+    requires sound { IsSoundDelay d.now }
     requires places { IsTrue (dist_below d.now (V.view_state view.old).places) }
     ensures value { Evaluates (V.view_state view.old) (V.view_state view.new) (longest_of d.now) result }
     ensures within { IfOk result IsDelay }

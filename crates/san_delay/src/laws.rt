@@ -5,7 +5,7 @@ ghost use Rattle.san_expr.specs.Delay.{chance_left, delay_of, geometric};
 ghost use Rattle.san_expr.specs.declared.dist.Dist.{Dist};
 ghost use Rattle.san_delay.specs.Longest.{IsLongest, longest_of};
 ghost use Rattle.san_delay.specs.Series.{IsLeast};
-ghost use Rattle.san_delay.specs.Sound.{IsChance, IsSound};
+ghost use Rattle.san_delay.specs.Sound.{IsChance, IsSoundDelay};
 
 /// The chance that a geometric delay goes on falls with each tick until it is 0, so that each draw
 /// has a least number of ticks.
@@ -20,5 +20,5 @@ pub fn geometric_delays_end()
 /// No draw gives a longer delay than the longest, and some draw gives that one; a trap of one draw
 /// is that of each.
 pub fn longest_delay_is_reached()
-    ensures { (d : Dist) (m : List ℕ) → IsSound d → IsLongest (λ u. (delay_of d u m).answer) (longest_of d m).answer }
+    ensures { (d : Dist) (m : List ℕ) → IsSoundDelay d → IsLongest (λ u. (delay_of d u m).answer) (longest_of d m).answer }
 {}

@@ -1,7 +1,7 @@
 //! Geometric delays by tables that are kept, so that a draw searches in place of counting.
 
 ghost use Rattle.std.specs.Prelude.{◌≡◌, ◌≤◌, IfOk, IfSome, IsTrue};
-ghost use Rattle.san_delay.specs.Sound.{IsChance, IsDelay, IsSound};
+ghost use Rattle.san_delay.specs.Sound.{IsChance, IsDelay, IsSoundDelay};
 ghost use Rattle.san_expr.specs.Below.{dist_below};
 ghost use Rattle.san_expr.specs.Delay.{delay_of, geometric};
 ghost use Rattle.san_expr.specs.Meets.{Evaluates};
@@ -149,7 +149,7 @@ impl DelayTables {
 
     /// What the call `delay` answers, in ticks.
     pub fn delay<V: Marked>(&self, d: &Dist, u: u64, view: &mut V) -> Result<u64, Trap>
-        requires sound { IsSound d.now }
+        requires sound { IsSoundDelay d.now }
         requires places { IsTrue (dist_below d.now (V.view_state view.old).places) }
         ensures value { Evaluates (V.view_state view.old) (V.view_state view.new) (delay_of d.now u) result }
         ensures within { IfOk result IsDelay }

@@ -1,6 +1,6 @@
 //! Delays that were worked out by hand, for the first two draws of seed 0 among others.
 
-ghost use Rattle.san_delay.specs.Sound.{IsSound};
+ghost use Rattle.san_delay.specs.Sound.{IsSoundDelay};
 
 use crate::{DelayTables, Dist, Trap, delay, longest};
 use san_base::{Boxed, Items, NoMemory, Op};
@@ -16,7 +16,7 @@ const HALF: u64 = 1 << 63;
 
 /// What a distribution gives for a draw, and at the longest, in a marking of no places.
 fn given(alloc: Global, d: &Dist, u: u64) -> Option<(Result<u64, Trap>, Result<u64, Trap>)>
-    requires { IsSound d.now }
+    requires { IsSoundDelay d.now }
 {
     let mut view = Marking::new(Vec::new(alloc));
     if dist_below(d, 0) {

@@ -13,7 +13,7 @@ use Rattle.san_expr.specs.Delay.{delay_of, ticks_of, between}
 use Rattle.san_expr.specs.Meaning.{Meaning, settled, value_at, go_on, then_do}
 use Rattle.san_expr.specs.Meets.{Meets, Evaluates, marking_of}
 use Rattle.san_expr.specs.Value.{value_step, value_of, rest_of, is_decided, truth, is_zero, applied, cell_of, fitting}
-use Rattle.san_expr.specs.View.{ViewState, Agrees, IsWhole, plain}
+use Rattle.san_expr.specs.View.{ViewState, Agrees, OwnsAll, plain}
 use Rattle.san_expr.proofs.ViewLemmas.{over_whole}
 
 module _ {T U : Type 0} (a : Meaning T) (next : T → Meaning U) (first : AssignsNothing a) (rest : (x : T) → AssignsNothing (next x)) where
@@ -78,7 +78,7 @@ delay_reads (Uniform low high) u m =
 delay_reads (Geom p q) u m = (refl, λ c. refl)
 delay_reads (Table entries) u m = (refl, λ c. refl)
 
-pub whole_is_one : (s : ViewState) → IsWhole s → (m n : List ℕ) → Agrees s m → Agrees s n → marking_of s m ≡ marking_of s n
+pub whole_is_one : (s : ViewState) → OwnsAll s → (m n : List ℕ) → Agrees s m → Agrees s n → marking_of s m ≡ marking_of s n
 whole_is_one s whole m n a b = over_whole s.own m n (a.sized ∙ sym b.sized) (λ p h. whole p (omega (arith, a.sized)))
 
 pub plain_is : (values m : List ℕ) → length m ≡ length values → marking_of (plain values) m ≡ values
@@ -87,7 +87,7 @@ plain_is [] (x ∷ m) e = absurd (omega arith)
 plain_is (v ∷ values) [] e = absurd (omega arith)
 plain_is (v ∷ values) (x ∷ m) e = ap (λ (ys : List ℕ). v ∷ ys) (plain_is values m (omega arith))
 
-pub plain_whole : (values : List ℕ) → IsWhole (plain values)
+pub plain_whole : (values : List ℕ) → OwnsAll (plain values)
 plain_whole [] p h = absurd (omega arith)
 plain_whole (v ∷ values) zero h = refl
 plain_whole (v ∷ values) (suc p) h = plain_whole values p (omega arith)

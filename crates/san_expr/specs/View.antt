@@ -73,5 +73,5 @@ abbrev pub plain : List ℕ → ViewState
 plain values = record { places = length values; first = λ p. None; own = λ p. slice_get values p; behind = []; kept = [] }
 
 -- each cell is the view's own
-abbrev pub IsWhole : ViewState → Type 0
-IsWhole s = (p : ℕ) → p < s.places → IsTrue (is_known (s.own p))
+abbrev pub OwnsAll : ViewState → Type 0
+OwnsAll s = (p : ℕ) → p < s.places → IsTrue (is_known (s.own p))

@@ -7,7 +7,7 @@ ghost use Rattle.san_expr.specs.Effect.{effects_of};
 ghost use Rattle.san_expr.specs.Meets.{Evaluates, Meets, marking_of};
 ghost use Rattle.san_expr.specs.Mentions.{mentions, stmts_mention, dist_mentions};
 ghost use Rattle.san_expr.specs.Value.{value_of};
-ghost use Rattle.san_expr.specs.View.{ViewState, Agrees, IsWhole, plain};
+ghost use Rattle.san_expr.specs.View.{ViewState, Agrees, OwnsAll, plain};
 ghost use Rattle.san_expr.specs.declared.dist.Dist.{Dist};
 ghost use Rattle.san_expr.specs.declared.expr.Expr.{Expr};
 ghost use Rattle.san_expr.specs.declared.stmt.Stmt.{Stmt};
@@ -32,8 +32,8 @@ pub fn evaluations_assign_nothing()
 /// agrees with it is said of that one.
 #[tactic(auto, using(crate::proofs::WholeLemmas::whole_is_one, crate::proofs::WholeLemmas::plain_whole, crate::proofs::WholeLemmas::plain_is, crate::proofs::WholeLemmas::plain_evaluates, crate::proofs::WholeLemmas::plain_meets))]
 pub fn whole_views_have_one_marking()
-    ensures one { (s : ViewState) → IsWhole s → (m n : List ℕ) → Agrees s m → Agrees s n → marking_of s m ≡ marking_of s n }
-    ensures plain { (values : List ℕ) → IsWhole (plain values) }
+    ensures one { (s : ViewState) → OwnsAll s → (m n : List ℕ) → Agrees s m → Agrees s n → marking_of s m ≡ marking_of s n }
+    ensures plain { (values : List ℕ) → OwnsAll (plain values) }
     ensures marking { (values m : List ℕ) → length m ≡ length values → marking_of (plain values) m ≡ values }
     ensures value { (values left : List ℕ) (e : Expr) (r : Result ℤ Trap) → Evaluates (plain values) (plain left) (value_of e) r → ((value_of e values).answer ≡ r) × (left ≡ values) }
     ensures effect { (values left : List ℕ) (body : List Stmt) (r : Result (Unit {0}) Trap) → Meets (plain values) (plain left) (effects_of body) r → ((effects_of body values).answer ≡ r) × (left ≡ (effects_of body values).left) }

@@ -6,7 +6,7 @@ use Rattle.std.specs.Cmp.{IsEquivalence, nat_eq_equiv}
 use Rattle.std.specs.Cmp.Lexicographic.{pointwise, nat_list_eq_equiv}
 use Rattle.std.proofs.lemmas.List.{length-take-le}
 use Rattle.san_flat.specs.Homes.{same}
-use Rattle.san_tree.specs.Places.{Step, chain, child_of, home, node_at}
+use Rattle.san_tree.specs.Places.{PathStep, chain, child_of, home, node_at}
 use Rattle.san_tree.specs.declared.node.Node.{Node}
 use Rattle.san_tree.proofs.ApartLemmas.{climb-near}
 
@@ -21,7 +21,7 @@ same-equiv =
           ap (λ x. x && (nat_eq a.place z.place && nat_eq a.element z.element)) (nat_list_eq_equiv.congr a.path b.path z.path two.0) ∙ ap (λ x. pointwise nat_eq b.path z.path && (x && nat_eq a.element z.element)) (nat_eq_equiv.congr a.place b.place z.place more.0) ∙ ap (λ x. pointwise nat_eq b.path z.path && (nat_eq b.place z.place && x)) (nat_eq_equiv.congr a.element b.element z.element more.1);
     }
 
-chain-long : (nodes : List Node) (n : ℕ) (path : List ℕ) (above : List Step) → length (chain nodes n path above) ≡ length path + length above
+chain-long : (nodes : List Node) (n : ℕ) (path : List ℕ) (above : List PathStep) → length (chain nodes n path above) ≡ length path + length above
 chain-long nodes n [] above = omega arith
 chain-long nodes n (c ∷ path) above =
     let rest = chain-long nodes (child_of (node_at nodes n) c) path ((node_at nodes n, c) ∷ above) in

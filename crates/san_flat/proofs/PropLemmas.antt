@@ -2,7 +2,7 @@
 use Rattle.std.proofs.Common.{ℕ, Option, None, Some}
 use Rattle.std.proofs.Props.{props}
 use Rattle.std.specs.Coded.{Unit-prop}
-use Rattle.san_delay.specs.Sound.{IsSound}
+use Rattle.san_delay.specs.Sound.{IsSoundDelay}
 use Rattle.san_expr.specs.declared.dist.Dist.{Dist}
 use Rattle.san_expr.specs.declared.dist.Dist.TheVariants as dist
 use Rattle.san_net.specs.Accepted.{IsAcceptedInput, IsAcceptedKind, IsAcceptedOutput}
@@ -20,7 +20,7 @@ use Rattle.san_net.specs.declared.part.Slot.TheVariants as slot
 use Rattle.san_net.specs.declared.part.Span.{Span}
 use Rattle.san_net.specs.declared.part.Span.TheVariants as span
 
-sound-prop : (d : Dist) → IsProp (IsSound d)
+sound-prop : (d : Dist) → IsProp (IsSoundDelay d)
 sound-prop (dist.Det e) = Unit-prop
 sound-prop (dist.Uniform low high) = Unit-prop
 sound-prop (dist.Geom p q) = Prim.hlevel props

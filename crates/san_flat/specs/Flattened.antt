@@ -17,8 +17,8 @@ abbrev pub limit_passed : Model → Option FlatFault
 limit_passed m = limit_in (composition_in m)
 
 -- a fault other than want of memory is the first limit that is passed
-abbrev pub Refuses : FlatFault → Model → Type 0
-Refuses fault.Leaves m = limit_passed m ≡ Some fault.Leaves
-Refuses fault.Places m = limit_passed m ≡ Some fault.Places
-Refuses fault.Acts m = limit_passed m ≡ Some fault.Acts
-Refuses fault.NoMemory m = Unit {0}
+abbrev pub RefusesModel : FlatFault → Model → Type 0
+RefusesModel fault.Leaves m = limit_passed m ≡ Some fault.Leaves
+RefusesModel fault.Places m = limit_passed m ≡ Some fault.Places
+RefusesModel fault.Acts m = limit_passed m ≡ Some fault.Acts
+RefusesModel fault.NoMemory m = Unit {0}

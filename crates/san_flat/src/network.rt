@@ -3,7 +3,7 @@
 ghost use Rattle.std.specs.Prelude.{◌≡◌, ◌<◌, ◌≤◌, ℕ, List, map, All, None, true, length, IfErr, IfOk, IsErrOf};
 ghost use Rattle.san_base.specs.declared.limits.TheConstants.{MAX_LEAVES, MAX_PLACES, MAX_ACTS};
 ghost use Rattle.san_tree.specs.declared.limits.TheConstants.{MAX_PATH};
-ghost use Rattle.san_flat.specs.Flattened.{Refuses, limit_passed};
+ghost use Rattle.san_flat.specs.Flattened.{RefusesModel, limit_passed};
 ghost use Rattle.san_flat.specs.Homes.{CellHome, homes_in, same};
 ghost use Rattle.san_flat.specs.Networks.{leaf_count, network_of_model, value_at};
 ghost use Rattle.san_flat.specs.inner.Models.{act_count, place_count};
@@ -131,7 +131,7 @@ fn flat_of(
     requires few { leaf_count model.now ≤ MAX_LEAVES }
     ensures network { IfOk result (λ flat. flat ≡ network_of_model model.now) }
     ensures fits { IfOk result (λ _. limit_passed model.now ≡ None) }
-    ensures refuses { IfErr result (λ fault. Refuses fault model.now) }
+    ensures refuses { IfErr result (λ fault. RefusesModel fault model.now) }
 {
     leaves_are_known(model);
     let Some(seen) = see_all(alloc, model, homes, leaves)? else {
@@ -148,7 +148,7 @@ fn flat_of(
 pub fn flatten(alloc: Global, model: &Model) -> Result<Flat, FlatFault>
     ensures network { IfOk result (λ flat. flat ≡ network_of_model model.now) }
     ensures fits { IfOk result (λ _. limit_passed model.now ≡ None) }
-    ensures refuses { IfErr result (λ fault. Refuses fault model.now) }
+    ensures refuses { IfErr result (λ fault. RefusesModel fault model.now) }
     ensures leaves { MAX_LEAVES < leaf_count model.now → IsErrOf result fault.Leaves }
 {
     if model.tree().leaves() > MAX_LEAVES {

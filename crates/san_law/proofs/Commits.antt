@@ -12,7 +12,7 @@ use Rattle.san_law.specs.Piece.{LeafState, kept, no_leaf, outcome_of, own, priva
 use Rattle.san_law.specs.Order.{flag, flags_from, going_after, stale_after, touches, unsettled_after}
 use Rattle.san_law.specs.Core.{Core, leaf_of, put, rates_of, with_block}
 use Rattle.san_law.specs.Lawful.{IsLaid, IsLate}
-use Rattle.san_law.specs.Standing.{Each, Holds, IsFresh, Quiet, Serves, Sized, Upto, Waits, nothing_in}
+use Rattle.san_law.specs.Standing.{Each, Holds, IsFresh, Quiet, ServesRenewal, Sized, Upto, Waits, nothing_in}
 use Rattle.san_law.proofs.Places.{gather_scatter, own_is, privates_stay, put_is, scatter_length, take_scatter, untouched, writes_none}
 use Rattle.san_law.proofs.Flags.{flag_is, length_flags}
 use Rattle.san_law.proofs.Timers.{bare_like, least_like}
@@ -32,7 +32,7 @@ pub record Base (net : Net) (c : Core) (u : State) (j : ℕ) (l : Local) : Type 
   pub waits : Each net (λ i. i ≢ j → Waits net u i (leaf_of c i))
   pub late : Each net (λ i. i ≢ j → IsLate u.time (leaf_of c i).row)
   pub late_own : IsLate u.time l.row
-  pub seen : Serves net j (leaf_of c j).seen (gather (slots_of net j) u.stable) l.row
+  pub seen : ServesRenewal net j (leaf_of c j).seen (gather (slots_of net j) u.stable) l.row
 
 pub fresh_same : (net : Net) (u t : State) (i : ℕ) (a b : LeafState) (w : List Rated) → gather (slots_of net i) t.marking ≡ gather (slots_of net i) u.marking → b ≡ a → IsFresh net u i a w → IsFresh net t i b w
 fresh_same net u t i a b w e same h = subst (λ (x : LeafState). IsFresh net t i x w) (sym same) (record {
@@ -44,7 +44,7 @@ fresh_same net u t i a b w e same h = subst (λ (x : LeafState). IsFresh net t i
 pub nothing_same : (net : Net) (u t : State) (i : ℕ) → gather (slots_of net i) t.marking ≡ gather (slots_of net i) u.marking → nothing_in net u i → nothing_in net t i
 nothing_same net u t i e h = ap (net.first i) e ∙ h
 
-pub serves_like : (net : Net) (j : ℕ) (seen a b : List ℕ) (r q : Row) → a ≡ b → (is_bare r ≡ true → is_bare q ≡ true) → Serves net j seen a r → Serves net j seen b q
+pub serves_like : (net : Net) (j : ℕ) (seen a b : List ℕ) (r q : Row) → a ≡ b → (is_bare r ≡ true → is_bare q ≡ true) → ServesRenewal net j seen a r → ServesRenewal net j seen b q
 serves_like net j seen a b r q e f (inl h) = inl (h ∙ ap (kept net j) e)
 serves_like net j seen a b r q e f (inr h) = inr (h.0, f h.1)
 

@@ -12,7 +12,7 @@ use Rattle.san_law.specs.Piece.{LeafState}
 use Rattle.san_law.specs.Order.{Order, first_true, flag}
 use Rattle.san_law.specs.Core.{Core, leaf_of, rates_of}
 use Rattle.san_law.specs.Lawful.{IsLawful}
-use Rattle.san_law.specs.Standing.{Each, IsFresh, Serves, Upto, Waits, nothing_in, upto, upto_going, upto_stale, upto_unsettled}
+use Rattle.san_law.specs.Standing.{Each, IsFresh, ServesRenewal, Upto, Waits, nothing_in, upto, upto_going, upto_stale, upto_unsettled}
 use Rattle.san_law.proofs.Flags.{first_is, none_is}
 use Rattle.san_law.proofs.Blocks.{IsReady}
 
@@ -88,7 +88,7 @@ served_kept : (net : Net) → IsLawful net → (j t : ℕ) (v : List ℕ) (l : L
 served_kept net law j t v l true e = refl
 served_kept net law j t v l false e = law.unpaired j t [] v l e
 
-pub served : (net : Net) → IsLawful net → (j t : ℕ) (seen v : List ℕ) (l : Local) → Serves net j seen v l.row → net.renewed j t seen l ≡ net.renewed j t v l
+pub served : (net : Net) → IsLawful net → (j t : ℕ) (seen v : List ℕ) (l : Local) → ServesRenewal net j seen v l.row → net.renewed j t seen l ≡ net.renewed j t v l
 served net law j t seen v l (inl e) = ap (λ a. net.renewed j t a l) e ∙ served_kept net law j t v l (net.paired j) refl
 served net law j t seen v l (inr f) = law.bare j t seen v l f.1
 

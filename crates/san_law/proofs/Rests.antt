@@ -17,7 +17,7 @@ use Rattle.san_law.specs.Order.{Order, first_true, flag}
 use Rattle.san_law.specs.Reward.{rates_from}
 use Rattle.san_law.specs.Core.{Core, burst_after, leaf_of, rates_of, leaf_view_of, stopped, take_piece, take_admitted, taken, with_block, with_renewal}
 use Rattle.san_law.specs.Lawful.{IsLate, IsLawful}
-use Rattle.san_law.specs.Standing.{Each, Follows, Holds, IsFresh, Serves, Sized, Stands, Upto, Waits, nothing_in, upto, upto_going, upto_stale, upto_unsettled}
+use Rattle.san_law.specs.Standing.{Each, Follows, Holds, IsFresh, ServesRenewal, Sized, Stands, Upto, Waits, nothing_in, upto, upto_going, upto_stale, upto_unsettled}
 use Rattle.san_law.specs.inner.Least.{Before}
 use Rattle.san_law.proofs.Flags.{first_is, none_is}
 use Rattle.san_law.proofs.Timers.{dropped_late}
@@ -65,7 +65,7 @@ module _ (net : Net) (law : IsLawful net) (opening : State) (past : List Event) 
   same_renewal : net.renewed j c.order.time (leaf_of c j).seen (leaf_view_of net c j) ≡ renewed_at net s j (row_of s j)
   same_renewal = ap (λ t. net.renewed j t (leaf_of c j).seen (leaf_view_of net c j)) st.holds.time
       ∙ (ap (net.renewed j s.time (leaf_of c j).seen) leaf_view_here
-      ∙ served net law j s.time (leaf_of c j).seen (gather (slots_of net j) s.stable) (local_of net s j) (subst (Serves net j (leaf_of c j).seen (gather (slots_of net j) s.stable)) waits_here.row waits_here.seen))
+      ∙ served net law j s.time (leaf_of c j).seen (gather (slots_of net j) s.stable) (local_of net s j) (subst (ServesRenewal net j (leaf_of c j).seen (gather (slots_of net j) s.stable)) waits_here.row waits_here.seen))
 
   faulty : (k : ℕ) (trap : Trap) → renewed_at net s j (row_of s j) ≡ Faulty k trap → Follows net opening past (stopped net c c.order.time (burst_after Refresh c.burst 0) [] (Trapped j k trap))
   faulty k trap e =

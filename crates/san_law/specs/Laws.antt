@@ -13,7 +13,7 @@ use Rattle.san_law.specs.Tally.{tally_worth}
 use Rattle.san_law.specs.Core.{Core, advance, after_pieces, leaf_of, rates_of, taken}
 use Rattle.san_law.specs.Opening.{opening_core}
 use Rattle.san_law.specs.Lawful.{IsLaid}
-use Rattle.san_law.specs.Standing.{Each, Follows, Serves, Stands, upto}
+use Rattle.san_law.specs.Standing.{Each, Follows, ServesRenewal, Stands, upto}
 use Rattle.san_law.specs.Pieces.{next_piece, outcome_of_core, pieces, resumed}
 
 -- taking the needed piece keeps the standing, stops included
@@ -98,7 +98,7 @@ RowsAreRenewed net = (opening : State) (past : List Event) (c : Core) (s : State
 abbrev pub SeenIsKept : Net → Type 0
 SeenIsKept net = (opening : State) (past : List Event) (c : Core) (s : State) → Stands net opening past c s → Each net (λ i.
     (i < upto net c.order → (leaf_of c i).seen ≡ kept net i (gather (slots_of net i) s.marking))
-    × (upto net c.order ≤ i → Serves net i (leaf_of c i).seen (gather (slots_of net i) s.stable) (leaf_of c i).row))
+    × (upto net c.order ≤ i → ServesRenewal net i (leaf_of c i).seen (gather (slots_of net i) s.stable) (leaf_of c i).row))
 
 -- a piece that was made over shared values by which its leaf sees the same is the same piece
 abbrev pub SameView : Net → Type 0

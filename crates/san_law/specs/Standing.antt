@@ -15,8 +15,8 @@ use Rattle.san_law.specs.Core.{Core, leaf_of, rates_of}
 use Rattle.san_law.specs.Lawful.{IsLaid, IsLate}
 
 -- what was seen is what a leaf keeps of its last stable values, or nothing where none of its activities has a timer
-abbrev pub Serves : Net → ℕ → List ℕ → List ℕ → Row → Type 0
-Serves net j seen stable row = (seen ≡ kept net j stable) ⊎ ((seen ≡ []) × (is_bare row ≡ true))
+abbrev pub ServesRenewal : Net → ℕ → List ℕ → List ℕ → Row → Type 0
+ServesRenewal net j seen stable row = (seen ≡ kept net j stable) ⊎ ((seen ≡ []) × (is_bare row ≡ true))
 
 -- renewal leaves the row as it is, at any time, the values being those last seen
 abbrev pub Quiet : Net → ℕ → List ℕ → Row → Type 0
@@ -25,7 +25,7 @@ Quiet net j values row = (t : ℕ) → net.renewed j t values (record { values =
 -- a leaf whose renewal has not come yet
 pub record Waits (net : Net) (s : State) (j : ℕ) (l : LeafState) : Type 0 where
   pub row : l.row ≡ row_of s j
-  pub seen : Serves net j l.seen (gather (slots_of net j) s.stable) l.row
+  pub seen : ServesRenewal net j l.seen (gather (slots_of net j) s.stable) l.row
 
 -- a leaf that needs no renewal
 pub record IsFresh (net : Net) (s : State) (j : ℕ) (l : LeafState) (w : List Rated) : Type 0 where

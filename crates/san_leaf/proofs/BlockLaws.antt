@@ -21,7 +21,7 @@ use Rattle.san_net.specs.declared.first.FirstInstant.{FirstInstant}
 use Rattle.san_net.specs.declared.first.FirstInstant.TheVariants as instant
 use Rattle.san_net.specs.declared.part.Part.{Part}
 use Rattle.san_net.proofs.FirstLaws.{first_is_first, first_reads}
-use Rattle.san_leaf.specs.Lawful.{BlocksAreTheLaws, Is, IsBlock, IsOf, leaf_at, net_of_part}
+use Rattle.san_leaf.specs.Lawful.{BlocksAreTheLaws, Is, IsBlock, IsBlockOf, leaf_at, net_of_part}
 use Rattle.san_leaf.specs.Blocks.{Made, after_done, after_found, after_impulses, and_impulses, back_by, block_of, completed_by, counted, done_of, impulse_of, impulses_by, impulses_of, made_before, or_back}
 
 -- two outcomes that differ at most in what is looked at
@@ -95,7 +95,7 @@ impulses_are k (t ∷ terms) v = by_test (nat_eq t.act k) (impulses_are k terms 
         ∙ (after_read (impulses_of k terms) (λ xs. settled (Ok (impulse_in v t ∷ xs))) v (impulses_in terms k v) (impulses_read k terms) rest).answer
     by_test false rest = rest
 
-is_same : (b : law.Block) (row : net.Row) (o q : Evaluation Made) → Same o q → IsOf b row q → IsOf b row o
+is_same : (b : law.Block) (row : net.Row) (o q : Evaluation Made) → Same o q → IsBlockOf b row q → IsBlockOf b row o
 is_same b row o q same is =
     subst (λ (r : Result Made Trap). Is b row o.left o.sets r) (sym same.answer)
     (subst (λ (m : List ℕ). Is b row m o.sets q.answer) (sym same.left)
@@ -125,14 +125,14 @@ module _ (draw : ℕ → ℕ → ℕ) (p : Part) where
     abbrev with_first : Made → Meaning Made
     with_first made = settled (Ok (made_before completion made))
 
-    by_answer : (e : Evaluation Made) (r : Result Made Trap) → xs ≡ recorded → Is rest_of row e.left e.sets r → IsOf (law.before k done rest_of) row (joined first (go_on r e with_first))
+    by_answer : (e : Evaluation Made) (r : Result Made Trap) → xs ≡ recorded → Is rest_of row e.left e.sets r → IsBlockOf (law.before k done rest_of) row (joined first (go_on r e with_first))
     by_answer e (Err t) same is = is
     by_answer e (Ok made) same is =
         ap (law.before k done) is
         ∙ ap (λ ys. record { completions = record { act = k; case = case; impulses = ys } ∷ made.completions; sets = λ q. sets q || e.sets q; left = leaf_at row made.cases e.left; close = made.close }) same
         ∙ ap (λ (s : ℕ → Bool). record { completions = completion ∷ made.completions; sets = s; left = leaf_at row made.cases e.left; close = made.close }) (fun_ext (λ q. ap (λ (x : Bool). sets q || x) (sym (or_false (e.sets q)))))
 
-    impulses_then : IsBlock draw p n → xs ≡ recorded → IsOf (law.before k done rest_of) row (joined first (then_do (impulses_of k p.atomic.impulses) (after_impulses (block_of draw p n) cases k case) w))
+    impulses_then : IsBlock draw p n → xs ≡ recorded → IsBlockOf (law.before k done rest_of) row (joined first (then_do (impulses_of k p.atomic.impulses) (after_impulses (block_of draw p n) cases k case) w))
     impulses_then rest same =
         let go = after_read (impulses_of k p.atomic.impulses) (after_impulses (block_of draw p n) cases k case) w recorded (impulses_read k p.atomic.impulses) (impulses_are k p.atomic.impulses w) in
         let e = block_of draw p n (counted cases k) w in
@@ -154,24 +154,24 @@ module _ (draw : ℕ → ℕ → ℕ) (p : Part) where
     abbrev after : leaf.Activity → Result leaf.Effected Trap → law.Block
     after a r = law.after_done (law.settle of_part 0 n) (leaf_at row cases v) k (leaf.done_by (leaf_at row cases v).row k a r)
 
-    by_done : (r : Result ℕ Trap) → IsBlock draw p n → came.answer ≡ r → IsOf (after act (effected_by came r)) row (go_on (back_by v came r).answer (back_by v came r) (after_done (block_of draw p n) p cases k))
+    by_done : (r : Result ℕ Trap) → IsBlock draw p n → came.answer ≡ r → IsBlockOf (after act (effected_by came r)) row (go_on (back_by v came r).answer (back_by v came r) (after_done (block_of draw p n) p cases k))
     by_done (Err t) rest e = refl
     by_done (Ok case) rest e = impulses_then n k case row cases came.left came.sets (act.impulses came.left) rest (impulses_so p.atomic.impulses k u o v came.left case e)
 
-    done_then : (a : leaf.Activity) → IsBlock draw p n → a ≡ act → IsOf (after a (a.complete u v)) row whole
+    done_then : (a : leaf.Activity) → IsBlock draw p n → a ≡ act → IsBlockOf (after a (a.complete u v)) row whole
     done_then a rest is =
-        subst (λ (b : leaf.Activity). IsOf (after b (b.complete u v)) row whole) (sym is)
-        (subst (λ (r : Result leaf.Effected Trap). IsOf (after act r) row whole) (sym (completes_so p.atomic.impulses k u o v)) (by_done came.answer rest refl))
+        subst (λ (b : leaf.Activity). IsBlockOf (after b (b.complete u v)) row whole) (sym is)
+        (subst (λ (r : Result leaf.Effected Trap). IsBlockOf (after act r) row whole) (sym (completes_so p.atomic.impulses k u o v)) (by_done came.answer rest refl))
 
   -- a leaf's activity completes
   pub picked_then : (n k : ℕ) (row : net.Row) (cases v : List ℕ) → IsBlock draw p n
-      → IsOf (law.after_done (law.settle of_part 0 n) (leaf_at row cases v) k (of_part.done 0 k (leaf_at row cases v))) row (done_of draw p k cases (block_of draw p n) v)
+      → IsBlockOf (law.after_done (law.settle of_part 0 n) (leaf_at row cases v) k (of_part.done 0 k (leaf_at row cases v))) row (done_of draw p k cases (block_of draw p n) v)
   picked_then n k row cases v rest = let z : 0 + k ≡ k = omega arith in
       done_then n k (draw (leaf.case_stream (leaf_of p) k) (slice_index cases k)) row cases v (slice_get p.atomic.acts k) (leaf.activity_of (leaf_of p) k) rest (activity_at p.atomic.impulses 0 p.atomic.acts k ∙ ap (λ i. activity_by p.atomic.impulses i (slice_get p.atomic.acts k)) z)
 
   -- what stands first
   found_then : (n : ℕ) (row : net.Row) (cases v : List ℕ) (f : FirstInstant) → IsBlock draw p n
-      → IsOf (law.after_found (law.settle of_part 0 n) (λ k. of_part.done 0 k (leaf_at row cases v)) (leaf_at row cases v) (found_by (Ok f))) row (after_found (block_of draw p n) draw p cases f v)
+      → IsBlockOf (law.after_found (law.settle of_part 0 n) (λ k. of_part.done 0 k (leaf_at row cases v)) (leaf_at row cases v) (found_by (Ok f))) row (after_found (block_of draw p n) draw p cases f v)
   found_then n row cases v instant.None rest = refl
   found_then n row cases v (instant.Trapped k t) rest = refl
   found_then n row cases v (instant.Enabled k) rest = picked_then n k row cases v rest
@@ -183,7 +183,7 @@ module _ (draw : ℕ → ℕ → ℕ) (p : Part) where
       let first : of_part.first 0 v ≡ found_by (Ok f.0) = sym (first_is_first p v accepted) ∙ ap found_by f.1 in
       is_same (law.settle of_part 0 (suc n) (leaf_at row cases v)) row (block_of draw p (suc n) cases v) (after_found (block_of draw p n) draw p cases f.0 v)
       (after_read (first_of p.atomic) (after_found (block_of draw p n) draw p cases) v f.0 (first_reads p.atomic) f.1)
-      (subst (λ (x : net.Found). IsOf (law.after_found (law.settle of_part 0 n) (λ k. of_part.done 0 k (leaf_at row cases v)) (leaf_at row cases v) x) row (after_found (block_of draw p n) draw p cases f.0 v)) (sym first)
+      (subst (λ (x : net.Found). IsBlockOf (law.after_found (law.settle of_part 0 n) (λ k. of_part.done 0 k (leaf_at row cases v)) (leaf_at row cases v) x) row (after_found (block_of draw p n) draw p cases f.0 v)) (sym first)
       (found_then n row cases v f.0 (is_block accepted n)))
 
 pub blocks_are_the_laws : (p : Part) → BlocksAreTheLaws p

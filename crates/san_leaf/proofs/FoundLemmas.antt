@@ -11,7 +11,7 @@ use Rattle.san_net.specs.declared.atomic.Atomic.{Atomic}
 use Rattle.san_net.specs.declared.first.FirstInstant.{FirstInstant}
 use Rattle.san_net.specs.declared.first.FirstInstant.TheVariants as instant
 use Rattle.san_leaf.specs.inner.Cells.{value_by}
-use Rattle.san_leaf.specs.inner.Turns.{FoundWithin, IsWithin}
+use Rattle.san_leaf.specs.inner.Turns.{FoundWithin, ClosesWithin}
 use Rattle.san_leaf.specs.declared.block.Close.{Close}
 use Rattle.san_leaf.specs.declared.block.Close.TheVariants as close
 use Rattle.san_leaf.specs.inner.ViewStates.{Seeing, view_state_of}
@@ -54,7 +54,7 @@ enabled_within n k f is h = subst (FoundWithin n) is h
 pub trapped_within : (n k : ℕ) (t : Trap) (f : FirstInstant) → f ≡ instant.Trapped k t → FoundWithin n f → k < n
 trapped_within n k t f is h = subst (FoundWithin n) is h
 
-pub within_more : (n m : ℕ) (c : Close) → n ≤ m → IsWithin n c → IsWithin m c
+pub within_more : (n m : ℕ) (c : Close) → n ≤ m → ClosesWithin n c → ClosesWithin m c
 within_more n m close.Rests le h = tt
 within_more n m close.More le h = tt
 within_more n m (close.FailsTest k t) le h = omega (arith, le, h)

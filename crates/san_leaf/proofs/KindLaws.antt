@@ -9,7 +9,7 @@ use Rattle.san_law.specs.State.{part_of}
 use Rattle.san_net.specs.Accepted.{IsAccepted}
 use Rattle.san_net.specs.declared.part.Part.{Part}
 use Rattle.san_leaf.specs.Blocks.{made_of}
-use Rattle.san_leaf.specs.Lawful.{IsOf, leaf_at, net_of_part}
+use Rattle.san_leaf.specs.Lawful.{IsBlockOf, leaf_at, net_of_part}
 use Rattle.san_leaf.specs.inner.Ends.{idle, kind_by, row_by}
 use Rattle.san_leaf.proofs.BlockLaws.{is_block, picked_then}
 
@@ -71,7 +71,7 @@ module _ (draw : ℕ → ℕ → ℕ) (p : Part) (time : ℕ) (base : LeafState)
   block_in None v = settle net 0 64 (started None v)
   block_in (Some k) v = after_done (settle net 0 63) (started (Some k) v) k (net.done 0 k (started (Some k) v))
 
-  pub block_is_made : IsAccepted p.atomic → (fired : Option ℕ) (v : List ℕ) → IsOf (block_in fired v) (row_by fired base.row) (made_of draw p fired base.row.cases v)
+  pub block_is_made : IsAccepted p.atomic → (fired : Option ℕ) (v : List ℕ) → IsBlockOf (block_in fired v) (row_by fired base.row) (made_of draw p fired base.row.cases v)
   block_is_made accepted None v = is_block draw p accepted 64 base.row base.row.cases v
   block_is_made accepted (Some k) v = picked_then draw p 63 k (without_timer base.row k) base.row.cases v (is_block draw p accepted 63)
 

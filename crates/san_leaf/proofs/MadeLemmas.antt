@@ -19,7 +19,7 @@ use Rattle.san_leaf.specs.Claimed.{Claimed, IsReadFrom}
 use Rattle.san_leaf.specs.inner.Ends.{kind_by, nothing_recorded, outcome_by, piece_of_cells, row_by}
 use Rattle.san_leaf.specs.inner.ViewStates.{Seeing, behind_of, kept_of, known, view_state_of}
 use Rattle.san_leaf.specs.Pieces.{IsSound, slots_in}
-use Rattle.san_leaf.specs.inner.Turns.{IsMade, close_in, with_cases}
+use Rattle.san_leaf.specs.inner.Turns.{MakesRecorded, close_in, with_cases}
 use Rattle.san_leaf.specs.inner.Recorded.{Recorded}
 use Rattle.san_leaf.specs.declared.block.Close.{Close}
 use Rattle.san_leaf.proofs.SoundLemmas.{is_read_from, sound}
@@ -34,7 +34,7 @@ module _ (c : Claimed) (slots : List Slot) (marking : Option (List ℕ)) (kept :
     (own_is : own0 ≡ starts (map slot_in c.part.slots) c.base.values) (first_is : first0 ≡ replicate (length c.part.slots) None) (row_is : row ≡ c.base.row)
     (own1 : s1.own ≡ cells) (first1 : s1.first ≡ read) (long : length cells ≡ length s1.places) (wide : length read ≡ length s1.places) (many : length s1.places ≡ length s0.places)
     (fired : Option ℕ) (kind : kind_in c.part.first.0 c.kind ≡ kind_by fired) (few : length c.base.values ≡ length (privates (slots_in c.part)))
-    (m : IsMade (made_of (draw_of c.seed) c.part fired row.cases) nothing_recorded recorded (row_by fired row) after (view_state_of s0) (view_state_of s1) end) where
+    (m : MakesRecorded (made_of (draw_of c.seed) c.part fired row.cases) nothing_recorded recorded (row_by fired row) after (view_state_of s0) (view_state_of s1) end) where
   sized : length s1.places ≡ length (slots_in c.part)
   sized = many ∙ ap (λ (s : Seeing). length s.places) is0 ∙ length-map slots place_of ∙ ap (λ (ss : List Slot). length ss) same ∙ sym (length-map c.part.slots slot_in)
 

@@ -5,7 +5,7 @@ use Rattle.std.proofs.lemmas.Bool.{eq-eqb, ne_eqb}
 use Rattle.san_base.specs.declared.limits.TheConstants.{MAX_ACTS}
 use Rattle.san_leaf.specs.declared.recorder.Impulse.{Impulse}
 use Rattle.san_leaf.specs.Events.{completions_from, impulse_in, impulses_at}
-use Rattle.san_leaf.specs.inner.Recorded.{AreRecorded, recorded_of, with_event, with_impulse}
+use Rattle.san_leaf.specs.inner.Recorded.{AreWellRecorded, recorded_of, with_event, with_impulse}
 use Rattle.std.proofs.lemmas.List.{length-append}
 use Rattle.std.proofs.lemmas.List.Elements.{All-append, All-cons, All-nil}
 
@@ -66,7 +66,7 @@ none_later i (x ∷ is) h =
     let off : x.event ≡ i → ⊥ = λ e. omega (arith, first, e) in
     ap (λ (b : Bool). map impulse_in (cond b (x ∷ filter (of_event i) is) (filter (of_event i) is))) (ne_eqb x.event i off) ∙ none_later i is (λ k d l. h (suc k) d (omega (arith, l)))
 
-pub recorded_with_event : (es : List (ℕ × ℕ)) (is : List Impulse) (e : ℕ × ℕ) → AreRecorded es is → recorded_of (es ++ e ∷ []) is ≡ with_event (recorded_of es is) e.0 e.1
+pub recorded_with_event : (es : List (ℕ × ℕ)) (is : List Impulse) (e : ℕ × ℕ) → AreWellRecorded es is → recorded_of (es ++ e ∷ []) is ≡ with_event (recorded_of es is) e.0 e.1
 recorded_with_event es is e h =
     let long : length (es ++ e ∷ []) ≡ suc (length es) = length-append es (e ∷ []) ∙ omega arith in
     let zero_first : 0 + length es ≡ length es = omega arith in
@@ -75,14 +75,14 @@ recorded_with_event es is e h =
     ∙ ap (λ ys. record { completions = completions_from 0 es is ++ record { act = e.0; case = e.1; impulses = impulses_at (length es) is } ∷ []; pending = ys }) (none_later (suc (length es)) is (λ k d l. let b = h.early k d l in omega (arith, b)))
 
 -- what is kept of them
-pub impulse_recorded : (es : List (ℕ × ℕ)) (is : List Impulse) (x : Impulse) → AreRecorded es is → x.event ≡ length es → AreRecorded es (is ++ x ∷ [])
+pub impulse_recorded : (es : List (ℕ × ℕ)) (is : List Impulse) (x : Impulse) → AreWellRecorded es is → x.event ≡ length es → AreWellRecorded es (is ++ x ∷ [])
 impulse_recorded es is x h e = record { few = h.few; acts = h.acts; early = All-append (λ y. y.event ≤ length es) is (x ∷ []) h.early (All-cons (λ y. y.event ≤ length es) x [] (omega (arith, e)) (All-nil (λ y. y.event ≤ length es))) }
 
 completions_long : (i : ℕ) (es : List (ℕ × ℕ)) (is : List Impulse) → length (completions_from i es is) ≡ length es
 completions_long i [] is = refl
 completions_long i (e ∷ es) is = ap suc (completions_long (i + 1) es is)
 
-pub event_recorded : (es : List (ℕ × ℕ)) (is : List Impulse) (e : ℕ × ℕ) → AreRecorded es is → length (completions_from 0 es is) < 64 → e.0 < MAX_ACTS → AreRecorded (es ++ e ∷ []) is
+pub event_recorded : (es : List (ℕ × ℕ)) (is : List Impulse) (e : ℕ × ℕ) → AreWellRecorded es is → length (completions_from 0 es is) < 64 → e.0 < MAX_ACTS → AreWellRecorded (es ++ e ∷ []) is
 event_recorded es is e h l a =
     let long : length (es ++ e ∷ []) ≡ suc (length es) = length-append es (e ∷ []) ∙ omega arith in
     let same = completions_long 0 es is in

@@ -15,7 +15,7 @@ use Rattle.san_net.specs.declared.first.FirstInstant.{FirstInstant}
 use Rattle.san_net.specs.declared.first.FirstInstant.TheVariants as instant
 use Rattle.san_net.specs.declared.part.Part.{Part}
 use Rattle.san_leaf.specs.Blocks.{Made, after_done, after_found, after_impulses, block_of, done_of, impulses_of, made_before, none_made, picked_of, turn_of}
-use Rattle.san_leaf.specs.inner.Turns.{GoesOn, IsMade, TurnedTo, with_cases}
+use Rattle.san_leaf.specs.inner.Turns.{CompletesOnce, MakesRecorded, TakesTurn, with_cases}
 use Rattle.san_leaf.specs.inner.Recorded.{Recorded, with_event}
 use Rattle.san_leaf.specs.inner.Impulses.{Records}
 use Rattle.san_leaf.specs.declared.block.Close.{Close}
@@ -32,7 +32,7 @@ kept_recorded was none = ap (λ xs. record { completions = was.completions; pend
 module _ (draw : ℕ → ℕ → ℕ) (p : Part) (was : Recorded) (row : Row) (old mid : ViewState) where
   -- an activity's completion
   module _ (k : ℕ) (r : Result ℕ Trap) (picks : Meets old mid (picked_of draw p k row.cases) (Ok r)) where
-    pub fails_done : (trap : Trap) (after : Row) → r ≡ Err trap → was.pending ≡ [] → after ≡ counted_by r row k → (go : List ℕ → Meaning Made) → IsMade (done_of draw p k row.cases go) was was row after old mid (close.FailsDone k trap)
+    pub fails_done : (trap : Trap) (after : Row) → r ≡ Err trap → was.pending ≡ [] → after ≡ counted_by r row k → (go : List ℕ → Meaning Made) → MakesRecorded (done_of draw p k row.cases go) was was row after old mid (close.FailsDone k trap)
     fails_done trap after traps none counts go = record {
       made = none_made row.cases (law.FailsDone k trap);
       meets = meets_then old mid mid (picked_of draw p k row.cases) (after_done go p row.cases k) r (Ok (none_made row.cases (law.FailsDone k trap))) picks
@@ -43,7 +43,7 @@ module _ (draw : ℕ → ℕ → ℕ) (p : Part) (was : Recorded) (row : Row) (o
     }
 
     pub goes_on : (case : ℕ) (last : ViewState) (then now : Recorded) (after : Row) → r ≡ Ok case → was.pending ≡ [] → after ≡ counted_by r row k
-        → Records was then mid last k p.atomic.impulses → now ≡ with_event then k case → GoesOn (done_of draw p k row.cases) was now row after old last
+        → Records was then mid last k p.atomic.impulses → now ≡ with_event then k case → CompletesOnce (done_of draw p k row.cases) was now row after old last
     goes_on case last then now after goes none counts (xs, recorded, records) event =
         let c : law.Completion = record { act = k; case = case; impulses = xs } in
         let is : after ≡ with_case row k = counts ∙ ap (λ (x : Result ℕ Trap). counted_by x row k) goes in
@@ -63,7 +63,7 @@ module _ (draw : ℕ → ℕ → ℕ) (p : Part) (was : Recorded) (row : Row) (o
     found : (go : List ℕ → Meaning Made) (g : FirstInstant) (new : ViewState) (made : Made) → f ≡ g → Meets mid new (after_found go draw p row.cases g) (Ok made) → Meets old new (turn_of draw p row.cases go) (Ok made)
     found go g new made is q = meets_then old mid new (first_of p.atomic) (after_found go draw p row.cases) f (Ok made) first.meets (subst (λ (x : FirstInstant). Meets mid new (after_found go draw p row.cases x) (Ok made)) (sym is) q)
 
-    pub rests : f ≡ instant.None → was.pending ≡ [] → (go : List ℕ → Meaning Made) → IsMade (turn_of draw p row.cases go) was was row row old mid close.Rests
+    pub rests : f ≡ instant.None → was.pending ≡ [] → (go : List ℕ → Meaning Made) → MakesRecorded (turn_of draw p row.cases go) was was row row old mid close.Rests
     rests is none go = record {
       made = none_made row.cases law.Rests;
       meets = found go instant.None mid (none_made row.cases law.Rests) is (evaluates_settled mid (Ok (none_made row.cases law.Rests))).meets;
@@ -72,7 +72,7 @@ module _ (draw : ℕ → ℕ → ℕ) (p : Part) (was : Recorded) (row : Row) (o
       closed = refl;
     }
 
-    pub fails_test : (k : ℕ) (trap : Trap) → f ≡ instant.Trapped k trap → was.pending ≡ [] → (go : List ℕ → Meaning Made) → IsMade (turn_of draw p row.cases go) was was row row old mid (close.FailsTest k trap)
+    pub fails_test : (k : ℕ) (trap : Trap) → f ≡ instant.Trapped k trap → was.pending ≡ [] → (go : List ℕ → Meaning Made) → MakesRecorded (turn_of draw p row.cases go) was was row row old mid (close.FailsTest k trap)
     fails_test k trap is none go = record {
       made = none_made row.cases (law.FailsTest k trap);
       meets = found go (instant.Trapped k trap) mid (none_made row.cases (law.FailsTest k trap)) is (evaluates_settled mid (Ok (none_made row.cases (law.FailsTest k trap)))).meets;
@@ -81,7 +81,7 @@ module _ (draw : ℕ → ℕ → ℕ) (p : Part) (was : Recorded) (row : Row) (o
       closed = refl;
     }
 
-    pub found_turns : (k : ℕ) (now : Recorded) (after : Row) (new : ViewState) (o : Option Close) → f ≡ instant.Enabled k → TurnedTo (done_of draw p k row.cases) was now row after mid new o → TurnedTo (turn_of draw p row.cases) was now row after old new o
+    pub found_turns : (k : ℕ) (now : Recorded) (after : Row) (new : ViewState) (o : Option Close) → f ≡ instant.Enabled k → TakesTurn (done_of draw p k row.cases) was now row after mid new o → TakesTurn (turn_of draw p row.cases) was now row after old new o
     found_turns k now after new None is goes = record {
       completion = goes.completion;
       recorded = goes.recorded;
@@ -98,7 +98,7 @@ module _ (draw : ℕ → ℕ → ℕ) (p : Part) (was : Recorded) (row : Row) (o
 
 -- a completion and then what follows it
 pub goes_then : (block : (List ℕ → Meaning Made) → Meaning Made) (go : List ℕ → Meaning Made) (was now then : Recorded) (row next after : Row) (old mid new : ViewState) (end : Close)
-    → GoesOn block was now row next old mid → IsMade (go next.cases) now then next after mid new end → IsMade (block go) was then row after old new end
+    → CompletesOnce block was now row next old mid → MakesRecorded (go next.cases) now then next after mid new end → MakesRecorded (block go) was then row after old new end
 goes_then block go was now then row next after old mid new end goes m = record {
   made = made_before goes.completion m.made;
   meets = goes.meets go new m.made m.meets;
@@ -109,14 +109,14 @@ goes_then block go was now then row next after old mid new end goes m = record {
 
 -- what so many further turns make from here on, all turns make from the start
 abbrev pub Stands : (ℕ → ℕ → ℕ) → Part → ℕ → ℕ → Recorded → Recorded → Row → Row → ViewState → ViewState → Type 0
-Stands draw p most left was now row after old mid = (recorded : Recorded) (last : Row) (new : ViewState) (end : Close) → IsMade (block_of draw p left after.cases) now recorded after last mid new end → IsMade (block_of draw p most row.cases) was recorded row last old new end
+Stands draw p most left was now row after old mid = (recorded : Recorded) (last : Row) (new : ViewState) (end : Close) → MakesRecorded (block_of draw p left after.cases) now recorded after last mid new end → MakesRecorded (block_of draw p most row.cases) was recorded row last old new end
 
 pub stands_more : (draw : ℕ → ℕ → ℕ) (p : Part) (most left : ℕ) (was now then : Recorded) (row after more : Row) (old mid next : ViewState)
-    → Stands draw p most (suc left) was now row after old mid → GoesOn (turn_of draw p after.cases) now then after more mid next → Stands draw p most left was then row more old next
+    → Stands draw p most (suc left) was now row after old mid → CompletesOnce (turn_of draw p after.cases) now then after more mid next → Stands draw p most left was then row more old next
 stands_more draw p most left was now then row after more old mid next stands goes recorded last new end m =
     stands recorded last new end (goes_then (turn_of draw p after.cases) (block_of draw p left) now then recorded after more last mid next new end goes m)
 
-pub stands_end : (draw : ℕ → ℕ → ℕ) (p : Part) (most : ℕ) (was now : Recorded) (row after : Row) (old mid : ViewState) → Stands draw p most 0 was now row after old mid → now.pending ≡ [] → IsMade (block_of draw p most row.cases) was now row after old mid close.More
+pub stands_end : (draw : ℕ → ℕ → ℕ) (p : Part) (most : ℕ) (was now : Recorded) (row after : Row) (old mid : ViewState) → Stands draw p most 0 was now row after old mid → now.pending ≡ [] → MakesRecorded (block_of draw p most row.cases) was now row after old mid close.More
 stands_end draw p most was now row after old mid stands none = stands now after mid close.More (record {
   made = none_made after.cases law.More;
   meets = (evaluates_settled mid (Ok (none_made after.cases law.More))).meets;
@@ -125,5 +125,5 @@ stands_end draw p most was now row after old mid stands none = stands now after 
   closed = refl;
 })
 
-pub room_after : (block : (List ℕ → Meaning Made) → Meaning Made) (was now : Recorded) (row after : Row) (old mid : ViewState) → GoesOn block was now row after old mid → (length now.completions ≡ length was.completions + 1) × (now.pending ≡ [])
+pub room_after : (block : (List ℕ → Meaning Made) → Meaning Made) (was now : Recorded) (row after : Row) (old mid : ViewState) → CompletesOnce block was now row after old mid → (length now.completions ≡ length was.completions + 1) × (now.pending ≡ [])
 room_after block was now row after old mid goes = (ap (λ (t : Recorded). length t.completions) goes.recorded ∙ length-append was.completions (goes.completion ∷ []), ap (λ (t : Recorded). t.pending) goes.recorded)

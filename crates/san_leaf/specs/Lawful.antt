@@ -28,11 +28,11 @@ abbrev pub Is : law.Block → net.Row → List ℕ → (ℕ → Bool) → Result
 Is b row left sets (Err t) = ⊥
 Is b row left sets (Ok made) = b ≡ block_by row left sets made
 
-abbrev pub IsOf : law.Block → net.Row → Evaluation Made → Type 0
-IsOf b row o = Is b row o.left o.sets o.answer
+abbrev pub IsBlockOf : law.Block → net.Row → Evaluation Made → Type 0
+IsBlockOf b row o = Is b row o.left o.sets o.answer
 
 abbrev pub IsBlock : (ℕ → ℕ → ℕ) → Part → ℕ → Type 0
-IsBlock draw p n = (row : net.Row) (cases v : List ℕ) → IsOf (law.settle (net_of_part draw p) 0 n (leaf_at row cases v)) row (block_of draw p n cases v)
+IsBlock draw p n = (row : net.Row) (cases v : List ℕ) → IsBlockOf (law.settle (net_of_part draw p) 0 n (leaf_at row cases v)) row (block_of draw p n cases v)
 
 abbrev pub BlocksAreTheLaws : Part → Type 0
 BlocksAreTheLaws p = IsAccepted p.atomic → (draw : ℕ → ℕ → ℕ) (n : ℕ) → IsBlock draw p n

@@ -8,7 +8,7 @@ ghost use Rattle.san_net.specs.Accepted.{IsAccepted};
 ghost use Rattle.san_net.specs.Below.{acts_below};
 ghost use Rattle.san_net.specs.First.{first_of};
 ghost use Rattle.san_leaf.specs.Blocks.{block_of, done_of, fired_of, made_of, turn_of};
-ghost use Rattle.san_leaf.specs.inner.Turns.{FoundWithin, IsMade, IsWithin, TurnedTo};
+ghost use Rattle.san_leaf.specs.inner.Turns.{FoundWithin, MakesRecorded, ClosesWithin, TakesTurn};
 ghost use Rattle.san_leaf.specs.inner.ViewStates.{view_state_of};
 ghost use Rattle.san_leaf.specs.Fits.{MAX_LEAF_DRAWS};
 
@@ -74,11 +74,11 @@ fn complete_next<V: View, D: DrawSource>(
     ensures numbers { (most : ℕ) → All (λ n. n ≤ most) row.old.cases
         → All (λ n. n ≤ most + 1) row.new.cases }
     ensures cases { length row.new.cases ≡ length row.old.cases }
-    ensures turned { IfOk result (TurnedTo (done_of (draw_of (D.seed draws.old)) part.now act
+    ensures turned { IfOk result (TakesTurn (done_of (draw_of (D.seed draws.old)) part.now act
         row.old.cases) recorder.old recorder.new row.old row.new (view_state_of view.old) (view_state_of
         view.new)) }
     ensures draws { draws.new ≡ draws.old }
-    ensures within { IfOk result (λ o. IfSome o (IsWithin (length part.now.atomic.acts))) }
+    ensures within { IfOk result (λ o. IfSome o (ClosesWithin (length part.now.atomic.acts))) }
     ensures held { length held.new ≡ length held.old }
     ensures kept { (view_state_of view.new).kept ≡ (view_state_of view.old).kept }
     ensures places { (view_state_of view.new).places ≡ (view_state_of view.old).places }
@@ -116,11 +116,11 @@ fn turn<V: View, D: DrawSource>(
     ensures numbers { (most : ℕ) → All (λ n. n ≤ most) row.old.cases
         → All (λ n. n ≤ most + 1) row.new.cases }
     ensures cases { length row.new.cases ≡ length row.old.cases }
-    ensures turned { IfOk result (TurnedTo (turn_of (draw_of (D.seed draws.old)) part.now
+    ensures turned { IfOk result (TakesTurn (turn_of (draw_of (D.seed draws.old)) part.now
         row.old.cases) recorder.old recorder.new row.old row.new (view_state_of view.old) (view_state_of
         view.new)) }
     ensures draws { draws.new ≡ draws.old }
-    ensures within { IfOk result (λ o. IfSome o (IsWithin (length part.now.atomic.acts))) }
+    ensures within { IfOk result (λ o. IfSome o (ClosesWithin (length part.now.atomic.acts))) }
     ensures held { length held.new ≡ length held.old }
     ensures kept { (view_state_of view.new).kept ≡ (view_state_of view.old).kept }
     ensures places { (view_state_of view.new).places ≡ (view_state_of view.old).places }
@@ -152,10 +152,10 @@ fn settle<V: View, D: DrawSource>(
     requires numbers { All (λ n. n + most < MAX_DRAWS) row.old.cases }
     requires room { length recorder.old.completions + most ≤ 64 }
     requires none { recorder.old.pending ≡ [] }
-    ensures made { IfOk result (IsMade (block_of (draw_of (D.seed draws.old)) part.now most
+    ensures made { IfOk result (MakesRecorded (block_of (draw_of (D.seed draws.old)) part.now most
         row.old.cases) recorder.old recorder.new row.old row.new (view_state_of view.old) (view_state_of
         view.new)) }
-    ensures within { IfOk result (IsWithin (length part.now.atomic.acts)) }
+    ensures within { IfOk result (ClosesWithin (length part.now.atomic.acts)) }
     ensures draws { draws.new ≡ draws.old }
     ensures kept { (view_state_of view.new).kept ≡ (view_state_of view.old).kept }
     ensures places { (view_state_of view.new).places ≡ (view_state_of view.old).places }
@@ -190,10 +190,10 @@ fn fire<V: View, D: DrawSource>(
     requires numbers { All (λ n. n < MAX_LEAF_DRAWS) row.old.cases }
     requires unrecorded { recorder.old.completions ≡ [] }
     requires none { recorder.old.pending ≡ [] }
-    ensures made { IfOk result (IsMade (fired_of (draw_of (D.seed draws.old)) part.now act
+    ensures made { IfOk result (MakesRecorded (fired_of (draw_of (D.seed draws.old)) part.now act
         row.old.cases) recorder.old recorder.new row.old row.new (view_state_of view.old) (view_state_of
         view.new)) }
-    ensures within { IfOk result (IsWithin (length part.now.atomic.acts)) }
+    ensures within { IfOk result (ClosesWithin (length part.now.atomic.acts)) }
     ensures draws { draws.new ≡ draws.old }
     ensures kept { (view_state_of view.new).kept ≡ (view_state_of view.old).kept }
     ensures places { (view_state_of view.new).places ≡ (view_state_of view.old).places }
@@ -225,10 +225,10 @@ pub(crate) fn complete_all<V: View, D: DrawSource>(
     requires numbers { All (λ n. n < MAX_LEAF_DRAWS) row.old.cases }
     requires unrecorded { recorder.old.completions ≡ [] }
     requires none { recorder.old.pending ≡ [] }
-    ensures made { IfOk result (IsMade (made_of (draw_of (D.seed draws.old)) part.now fired
+    ensures made { IfOk result (MakesRecorded (made_of (draw_of (D.seed draws.old)) part.now fired
         row.old.cases) recorder.old recorder.new row.old row.new (view_state_of view.old) (view_state_of
         view.new)) }
-    ensures within { IfOk result (IsWithin (length part.now.atomic.acts)) }
+    ensures within { IfOk result (ClosesWithin (length part.now.atomic.acts)) }
     ensures draws { draws.new ≡ draws.old }
     ensures kept { (view_state_of view.new).kept ≡ (view_state_of view.old).kept }
     ensures places { (view_state_of view.new).places ≡ (view_state_of view.old).places }

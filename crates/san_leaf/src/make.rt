@@ -10,7 +10,7 @@ ghost use Rattle.san_leaf.specs.Pieces.{IsSound};
 ghost use Rattle.san_leaf.specs.States.{kind_in, pair_in};
 ghost use Rattle.san_leaf.specs.inner.Cells.{starts};
 ghost use Rattle.san_leaf.specs.inner.Ends.{kind_by, piece_of_cells};
-ghost use Rattle.san_leaf.specs.inner.Turns.{IsWithin};
+ghost use Rattle.san_leaf.specs.inner.Turns.{ClosesWithin};
 ghost use Rattle.san_net.specs.Leaf.{slot_in};
 
 use crate::cells::{noted, starts};
@@ -64,7 +64,7 @@ fn gathered(
     requires sound { IsSound (piece_of_cells (claimed claim.now) work.recorder work.row work.close
         own.now first.now) }
     requires fits { Fits (claimed claim.now) }
-    requires within { IsWithin MAX_ACTS work.close }
+    requires within { ClosesWithin MAX_ACTS work.close }
     ensures { IfOk result (λ p. p ≡ piece_of_cells (claimed claim.now) work.recorder work.row
         work.close own.now first.now) }
 {

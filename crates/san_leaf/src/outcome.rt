@@ -4,7 +4,7 @@ ghost use Rattle.std.specs.Prelude.{◌≡◌, ◌≤◌, ◌<◌, All, IfOk, If
 ghost use Rattle.std.specs.Option.{option_map};
 ghost use Rattle.san_law.specs.Block.{fault_of, more_of};
 ghost use Rattle.san_leaf.specs.Outcomes.{IsEventOf, act_in, fault_in};
-ghost use Rattle.san_leaf.specs.inner.Turns.{IsWithin, close_in};
+ghost use Rattle.san_leaf.specs.inner.Turns.{ClosesWithin, close_in};
 
 use crate::block::Close;
 use crate::recorder::Impulse;
@@ -69,7 +69,7 @@ pub(crate) fn events(
 /// The fault of a block that ended by a trap.
 pub(crate) fn close_fault(first: ActId, close: Close) -> Option<Fault>
     requires first { first.0 ≤ MAX_ACTS }
-    requires within { IsWithin MAX_ACTS close }
+    requires within { ClosesWithin MAX_ACTS close }
     ensures same { option_map (fault_in first.0) result ≡ fault_of (close_in close) }
     ensures of { IfSome result (λ f. first.0 ≤ f.act.0) }
 {

@@ -26,13 +26,13 @@ pub(crate) struct Recorder {
 }
 
 impl Model for Recorder {
-    ghost use Rattle.san_leaf.specs.inner.Recorded.{AreRecorded, Recorded, recorded_of};
+    ghost use Rattle.san_leaf.specs.inner.Recorded.{AreWellRecorded, Recorded, recorded_of};
 
     ghost Value = { Recorded };
 
     ghost view = { λ t. recorded_of t.events.items t.impulses.items };
 
-    ghost invariant = { λ t. AreRecorded t.events.items t.impulses.items };
+    ghost invariant = { λ t. AreWellRecorded t.events.items t.impulses.items };
 }
 
 impl Recorder {

@@ -7,7 +7,7 @@ ghost use Rattle.san_leaf.specs.Outcomes.{IsNumbered, outcome_in};
 ghost use Rattle.san_leaf.specs.Pieces.{slots_in};
 ghost use Rattle.san_leaf.specs.inner.Cells.{owned};
 ghost use Rattle.san_leaf.specs.inner.Ends.{busy, idle, nothing_recorded, outcome_by, row_by};
-ghost use Rattle.san_leaf.specs.inner.Turns.{IsMade, IsWithin, close_in};
+ghost use Rattle.san_leaf.specs.inner.Turns.{MakesRecorded, ClosesWithin, close_in};
 ghost use Rattle.san_leaf.specs.inner.ViewStates.{view_state_of};
 ghost use Rattle.san_net.specs.Accepted.{IsAccepted};
 ghost use Rattle.san_leaf.specs.Fits.{MAX_LEAF_DRAWS};
@@ -65,10 +65,10 @@ pub(crate) fn worked<V: View, D: DrawSource>(
     requires small { part.now.first.0 + length part.now.atomic.acts ≤ MAX_ACTS }
     requires numbers { All (λ n. n < MAX_LEAF_DRAWS) row.now.cases }
     ensures draws { draws.new ≡ draws.old }
-    ensures worked { IfOk result (λ w. IsMade (made_of (draw_of (D.seed draws.old)) part.now fired
+    ensures worked { IfOk result (λ w. MakesRecorded (made_of (draw_of (D.seed draws.old)) part.now fired
         row.now.cases) nothing_recorded w.recorder (row_by fired row.now) w.row (view_state_of view.old) (view_state_of
         view.new) w.close) }
-    ensures within { IfOk result (λ w. IsWithin (length part.now.atomic.acts) w.close) }
+    ensures within { IfOk result (λ w. ClosesWithin (length part.now.atomic.acts) w.close) }
     ensures kept { (view_state_of view.new).kept ≡ (view_state_of view.old).kept }
     ensures places { (view_state_of view.new).places ≡ (view_state_of view.old).places }
 {
@@ -104,7 +104,7 @@ fn end_state(
 /// The outcome of a piece that completed nothing: it leaves the state that it began from.
 pub(crate) fn idle_outcome(alloc: Global, claim: &Claim, close: Close) -> Result<Outcome, NoMemory>
     requires first { claim.now.part.first.0 ≤ MAX_ACTS }
-    requires within { IsWithin MAX_ACTS close }
+    requires within { ClosesWithin MAX_ACTS close }
     ensures same { IfOk result (λ o. outcome_in claim.now.part.first.0 o ≡ idle claim.now.base
         (close_in close)) }
     ensures numbered { IfOk result (IsNumbered claim.now.part.first.0 claim.now.time.0) }
@@ -128,7 +128,7 @@ fn busy_outcome(
     own: &Overlay,
 ) -> Result<Outcome, NoMemory>
     requires first { claim.now.part.first.0 ≤ MAX_ACTS }
-    requires within { IsWithin MAX_ACTS work.close }
+    requires within { ClosesWithin MAX_ACTS work.close }
     ensures same { IfOk result (λ o. outcome_in claim.now.part.first.0 o ≡ busy claim.now.part
         claim.now.base own.now work.row work.recorder.completions (close_in work.close)) }
     ensures numbered { IfOk result (IsNumbered claim.now.part.first.0 claim.now.time.0) }
@@ -163,7 +163,7 @@ pub(crate) fn outcome(
     own: &Overlay,
 ) -> Result<Outcome, NoMemory>
     requires first { claim.now.part.first.0 ≤ MAX_ACTS }
-    requires within { IsWithin MAX_ACTS work.close }
+    requires within { ClosesWithin MAX_ACTS work.close }
     ensures same { IfOk result (λ o. outcome_in claim.now.part.first.0 o ≡ outcome_by claim.now.part
         claim.now.base own.now work.row work.recorder.completions (close_in work.close)) }
     ensures numbered { IfOk result (IsNumbered claim.now.part.first.0 claim.now.time.0) }

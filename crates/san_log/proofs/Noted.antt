@@ -5,7 +5,7 @@ use Rattle.std.specs.Prelude.{slice_get, slice_index_or}
 use Rattle.std.proofs.lemmas.Bool.{eq-eqb, eqb-true}
 use Rattle.std.proofs.lemmas.List.Elements.{All-append}
 use Rattle.san_base.specs.declared.limits.TheConstants.{MAX_TOKENS}
-use Rattle.san_log.specs.Logs.{AgreesWith, Entry, find, found_by}
+use Rattle.san_log.specs.Logs.{AreEntriesOf, Entry, find, found_by}
 use Rattle.san_log.specs.Once.{AreNoted, AreOnce}
 
 -- a place that isn't the last one's has no more than before
@@ -51,23 +51,23 @@ found_small p es noted = of_all es noted.small
     of_all (x ∷ xs) h = by_test (nat_eq x.0.0 p) x (find p xs) (h 0 x (omega arith)) (of_all xs (λ i d lt. h (suc i) d (omega (arith, lt))))
 
 -- an entry that agrees leaves the question to those behind it
-step : (shared : List ℕ) (es : List Entry) (i : ℕ) (d : Entry) → i < length es → slice_get shared (slice_index_or es i d).0.0 ≡ Some (slice_index_or es i d).1 → AgreesWith (drop i es) shared ↔ AgreesWith (drop (suc i) es) shared
+step : (shared : List ℕ) (es : List Entry) (i : ℕ) (d : Entry) → i < length es → slice_get shared (slice_index_or es i d).0.0 ≡ Some (slice_index_or es i d).1 → AreEntriesOf (drop i es) shared ↔ AreEntriesOf (drop (suc i) es) shared
 step shared [] i d lt is = absurd (omega arith)
 step shared (e ∷ es) zero d lt is = (λ h. h.1, λ h. (is, h))
 step shared (e ∷ es) (suc i) d lt is = step shared es i d (omega (arith, lt)) is
 
 pub agree_as_far : (shared : List ℕ) (es : List Entry) (i : ℕ) (d : Entry) → i < length es → slice_get shared (slice_index_or es i d).0.0 ≡ Some (slice_index_or es i d).1
-    → (AgreesWith es shared ↔ AgreesWith (drop i es) shared) → AgreesWith es shared ↔ AgreesWith (drop (i + 1) es) shared
+    → (AreEntriesOf es shared ↔ AreEntriesOf (drop i es) shared) → AreEntriesOf es shared ↔ AreEntriesOf (drop (i + 1) es) shared
 agree_as_far shared es i d lt is so_far =
     let one : suc i ≡ i + 1 = omega arith in
-    let s = subst (λ (k : ℕ). AgreesWith (drop i es) shared ↔ AgreesWith (drop k es) shared) one (step shared es i d lt is) in
+    let s = subst (λ (k : ℕ). AreEntriesOf (drop i es) shared ↔ AreEntriesOf (drop k es) shared) one (step shared es i d lt is) in
     (λ h. s.0 (so_far.0 h), λ h. so_far.1 (s.1 h))
 
 -- one that doesn't agree settles it
-at : (shared : List ℕ) (es : List Entry) (i : ℕ) (d : Entry) → i < length es → AgreesWith (drop i es) shared → slice_get shared (slice_index_or es i d).0.0 ≡ Some (slice_index_or es i d).1
+at : (shared : List ℕ) (es : List Entry) (i : ℕ) (d : Entry) → i < length es → AreEntriesOf (drop i es) shared → slice_get shared (slice_index_or es i d).0.0 ≡ Some (slice_index_or es i d).1
 at shared [] i d lt h = absurd (omega arith)
 at shared (e ∷ es) zero d lt h = h.0
 at shared (e ∷ es) (suc i) d lt h = at shared es i d (omega (arith, lt)) h
 
-pub agree_no_more : (shared : List ℕ) (es : List Entry) (i : ℕ) (d : Entry) → i < length es → (AgreesWith es shared ↔ AgreesWith (drop i es) shared) → AgreesWith es shared → slice_get shared (slice_index_or es i d).0.0 ≡ Some (slice_index_or es i d).1
+pub agree_no_more : (shared : List ℕ) (es : List Entry) (i : ℕ) (d : Entry) → i < length es → (AreEntriesOf es shared ↔ AreEntriesOf (drop i es) shared) → AreEntriesOf es shared → slice_get shared (slice_index_or es i d).0.0 ≡ Some (slice_index_or es i d).1
 agree_no_more shared es i d lt so_far h = at shared es i d lt (so_far.0 h)

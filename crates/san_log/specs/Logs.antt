@@ -29,6 +29,6 @@ abbrev pub noted : PlaceId → ℕ → List Entry → List Entry
 noted place v es = noted_by (find place.0 es) (place, v) es
 
 -- each place is in the list and has the entry's value there
-abbrev pub AgreesWith : List Entry → List ℕ → Type 0
-AgreesWith [] shared = Unit {0}
-AgreesWith (e ∷ es) shared = (slice_get shared e.0.0 ≡ Some e.1) × AgreesWith es shared
+abbrev pub AreEntriesOf : List Entry → List ℕ → Type 0
+AreEntriesOf [] shared = Unit {0}
+AreEntriesOf (e ∷ es) shared = (slice_get shared e.0.0 ≡ Some e.1) × AreEntriesOf es shared

@@ -1,7 +1,7 @@
 //! A read log and its calls.
 
 ghost use Rattle.std.specs.Prelude.{◌≡◌, ◌≤◌, ◌<◌, ◌⊎◌, ◌↔◌, [], length, slice_get, Some, IfOk, IfSome, IsSome, IsTrue};
-ghost use Rattle.san_log.specs.Logs.{AgreesWith, find, noted};
+ghost use Rattle.san_log.specs.Logs.{AreEntriesOf, find, noted};
 
 use san_base::{MAX_TOKENS, NoMemory, PlaceId};
 use std::alloc::Global;
@@ -56,7 +56,7 @@ fn has(shared: &[u32], place: PlaceId, value: u32) -> bool
 /// Whether each of some entries has its value in a list of values by place.
 #[tactic(auto, using(crate::proofs::Noted::agree_as_far, crate::proofs::Noted::agree_no_more))]
 fn agree(entries: &[(PlaceId, u32)], shared: &[u32]) -> bool
-    ensures { IsTrue result ↔ AgreesWith entries.now shared.now }
+    ensures { IsTrue result ↔ AreEntriesOf entries.now shared.now }
 {
     'next: for entry in entries {
         if !has(shared, entry.0, entry.1) {
@@ -114,7 +114,7 @@ impl ReadLog {
 
     /// Whether each noted place has its value in a list of values by place.
     pub fn agrees(&self, shared: &[u32]) -> bool
-        ensures { IsTrue result ↔ AgreesWith self.now.entries shared.now }
+        ensures { IsTrue result ↔ AreEntriesOf self.now.entries shared.now }
     {
         agree(&self.entries, shared)
     }

@@ -2,7 +2,7 @@
 use Rattle.std.specs.Prelude.{ℕ, ◌++◌, ◌≡◌, ◌≤◌, ◌<◌, nat_eq, IsTrue, List, length, map, All}
 use Rattle.std.specs.List.{count_by}
 use Rattle.san_base.specs.declared.limits.TheConstants.{MAX_CELLS, MAX_PRIORITY, MAX_TOKENS}
-use Rattle.san_delay.specs.Sound.{IsSound}
+use Rattle.san_delay.specs.Sound.{IsSoundDelay}
 use Rattle.san_expr.specs.Below.{places_below}
 use Rattle.san_expr.specs.declared.expr.Expr.{Expr}
 use Rattle.san_net.specs.Apart.{AreApart}
@@ -35,7 +35,7 @@ IsAcceptedOutput (output.Body body) = Unit {0}
 
 -- the constants of a delay, or the priority
 abbrev pub IsAcceptedKind : ActKind → Type 0
-IsAcceptedKind (kind.Timed delay pair) = IsSound delay
+IsAcceptedKind (kind.Timed delay pair) = IsSoundDelay delay
 IsAcceptedKind (kind.Instant priority) = priority ≤ MAX_PRIORITY
 
 -- an activity in an atomic of so many cells

@@ -10,7 +10,7 @@ use Rattle.san_law.specs.Step as law
 use Rattle.san_net.specs.Network.{Network}
 use Rattle.san_net.specs.Laid.{IsNetwork}
 use Rattle.san_probe.proofs.ProgressLemmas.{laws, stands_on}
-use Rattle.san_probe.specs.inner.Progress.{Stands, net_by}
+use Rattle.san_probe.specs.inner.Progress.{ProbeStands, net_by}
 use Rattle.san_probe.specs.Markings.{IsMarkingOf}
 use Rattle.san_seq.specs.FlatRun.{Run, after_step, left_by, marking_of, step_of}
 use Rattle.san_net.specs.Runs.{ending_in}
@@ -44,7 +44,7 @@ module _ (n : Network) (net : Net) (holds : List ℕ → Bool) (s : State) (unme
       ∙ (sym (ap (λ (x : law.Stepped). passed n None x go t) is)
       ∙ sym (ap (λ at. passed n at (law.step net s).0 go t) unmet))
 
-module _ (n : Network) (seed : ℕ) (limits : Limits) (holds : List ℕ → Bool) (es : List law.Event) (s : State) (r : Run) (now : ℕ) (st : Stands n seed limits es s r now) where
+module _ (n : Network) (seed : ℕ) (limits : Limits) (holds : List ℕ → Bool) (es : List law.Event) (s : State) (r : Run) (now : ℕ) (st : ProbeStands n seed limits es s r now) where
   abbrev net : Net
   net = net_by n seed limits
 
@@ -79,12 +79,12 @@ module _ (n : Network) (seed : ℕ) (limits : Limits) (holds : List ℕ → Bool
       ∙ ap (passage_from holds) (sym st.at_state)
 
 -- a run that stands so, by another name
-pub stands_at : (n : Network) (seed : ℕ) (limits : Limits) (es : List law.Event) (s : State) (r q : Run) (now : ℕ) → q ≡ r → Stands n seed limits es s r now → Stands n seed limits es s q now
-stands_at n seed limits es s r q now same st = subst (λ (x : Run). Stands n seed limits es s x now) (sym same) st
+pub stands_at : (n : Network) (seed : ℕ) (limits : Limits) (es : List law.Event) (s : State) (r q : Run) (now : ℕ) → q ≡ r → ProbeStands n seed limits es s r now → ProbeStands n seed limits es s q now
+stands_at n seed limits es s r q now same st = subst (λ (x : Run). ProbeStands n seed limits es s x now) (sym same) st
 
 -- after an event
 pub moved : (n : Network) (seed : ℕ) (limits : Limits) → IsNetwork n → (r q after : Run) (e : Event) → q ≡ r → (step_of q).0 ≡ Ok e → after ≡ after_step q
-    → ((es : List law.Event) × (s : State) × (now : ℕ) × Stands n seed limits es s r now) → (es : List law.Event) × (s : State) × (now : ℕ) × Stands n seed limits es s after now
+    → ((es : List law.Event) × (s : State) × (now : ℕ) × ProbeStands n seed limits es s r now) → (es : List law.Event) × (s : State) × (now : ℕ) × ProbeStands n seed limits es s after now
 moved n seed limits known r q after e same answered left st =
     let here = stands_at n seed limits st.0 st.1 r q st.2 same st.3 in
     let ev = (laws n seed limits known st.0 st.1 q st.2 here e answered).event in

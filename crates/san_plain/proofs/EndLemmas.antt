@@ -23,7 +23,7 @@ use Rattle.san_reward.specs.declared.worth.Worth.{Worth}
 use Rattle.san_reward.proofs.RatesSet.{rates_law}
 use Rattle.san_reward.proofs.Sameness.{worth_same}
 use Rattle.san_report.specs.Closings.{closing, worths_by}
-use Rattle.san_plain.specs.inner.Progress.{Ends, IsOver, Stands, left_after}
+use Rattle.san_plain.specs.inner.Progress.{Ends, IsOver, RunStands, left_after}
 use Rattle.san_report.specs.Pages.{Sent}
 use Rattle.san_plain.specs.Reports.{Opened, net_by, worth_at}
 use Rattle.san_plain.specs.declared.counted.CountedRun.{CountedRun}
@@ -44,7 +44,7 @@ over_by : (n : Network) (x : law.Stepped) (e : Ending) â†’ event_or_ending n x â
 over_by n (law.Happened f) e answered = absurd cc
 over_by n (law.Over time why) e answered = (time, why, refl, same_ending (ending_in n time why) e answered)
 
-module _ (o : Opened) (es : List law.Event) (s : State) (c : CountedRun) (st : Stands o es s c) where
+module _ (o : Opened) (es : List law.Event) (s : State) (c : CountedRun) (st : RunStands o es s c) where
   abbrev net : Net
   net = net_by o
 

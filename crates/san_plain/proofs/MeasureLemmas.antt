@@ -13,7 +13,7 @@ use Rattle.san_reward.specs.declared.worth.Worth.{Worth}
 use Rattle.san_plain.specs.Measures.{Measured, measured_by, measured_of, worths_from}
 use Rattle.san_plain.specs.Reports.{Opened, net_by, worth_at}
 use Rattle.san_plain.specs.declared.counted.CountedRun.{CountedRun}
-use Rattle.san_plain.specs.inner.Progress.{Ends, IsOpened, Stands, opened_by}
+use Rattle.san_plain.specs.inner.Progress.{Ends, IsOpened, RunStands, opened_by}
 use Rattle.san_plain.proofs.EndLemmas.{many_spans, worths_are}
 use Rattle.san_plain.proofs.OpenedLemmas.{stands}
 use Rattle.san_plain.proofs.ReportLemmas.{ends_at}
@@ -42,7 +42,7 @@ worths_like (x ∷ xs) r f g h =
     ap (λ (w : Option Worth). w ∷ worths_from xs (suc r) f) (h r (omega arith) (omega arith))
     ∙ ap (λ (ys : List (Option Worth)). g r ∷ ys) (worths_like xs (suc r) f g (λ q l k. h q (omega (arith, l)) (omega (arith, k))))
 
-module _ (o : Opened) (es : List law.Event) (s : State) (c : CountedRun) (st : Stands o es s c) (e : Ending) (new : CountedRun) (ends : Ends o s e c new) where
+module _ (o : Opened) (es : List law.Event) (s : State) (c : CountedRun) (st : RunStands o es s c) (e : Ending) (new : CountedRun) (ends : Ends o s e c new) where
   -- by the trajectory
   ran : measured_of o ≡ Some (measured_by o.network (net_by o) (record { events = es; time = ends.time; ending = ends.why }))
   ran =
@@ -63,7 +63,7 @@ module _ (o : Opened) (es : List law.Event) (s : State) (c : CountedRun) (st : S
   spans_stay = subst (λ (d : CountedRun). length d.account.running.spans ≡ length o.network.rewards) (sym ends.kept) (many_spans o es s c st)
 
 -- before the first event
-pub begun : (o : Opened) (c : CountedRun) → IsNetwork o.network → IsOpened c → opened_by c ≡ o → (es : List law.Event) × (s : State) × Stands o es s c
+pub begun : (o : Opened) (c : CountedRun) → IsNetwork o.network → IsOpened c → opened_by c ≡ o → (es : List law.Event) × (s : State) × RunStands o es s c
 begun o c known is by =
-    subst (λ (p : Opened). (es : List law.Event) × (s : State) × Stands p es s c) by
+    subst (λ (p : Opened). (es : List law.Event) × (s : State) × RunStands p es s c) by
     ([], opening_state (net_by (opened_by c)), stands c (subst IsNetwork (sym (ap (λ (p : Opened). p.network) by)) known) is)

@@ -7,7 +7,7 @@ use Rattle.san_law.specs.Trajectory.{trajectory}
 use Rattle.san_net.specs.Laid.{IsNetwork}
 use Rattle.san_reward.specs.Running.{rates_in}
 use Rattle.san_plain.specs.inner.Accounts.{RewardAccount, opened_account}
-use Rattle.san_plain.specs.inner.Progress.{HasCounted, IsOpened, IsUnderWay, IsUnwritten, Stands, left_after, opened_by}
+use Rattle.san_plain.specs.inner.Progress.{HasCounted, IsOpened, IsUnderWay, IsUnwritten, RunStands, left_after, opened_by}
 use Rattle.san_report.specs.Pages.{Sent}
 use Rattle.san_plain.specs.Reports.{Opened, net_by, report_of}
 use Rattle.san_plain.specs.declared.counted.CountedRun.{CountedRun}
@@ -37,7 +37,7 @@ module _ (o : Opened) where
   sent_none first = ([], appends_nothing first, whole_left o)
 
 module _ (c : CountedRun) (known : IsNetwork c.flat.now) (is : IsOpened c) where
-  pub stands : Stands (opened_by c) [] (start (opened_by c)) c
+  pub stands : RunStands (opened_by c) [] (start (opened_by c)) c
   stands = record {
     known = known;
     range = is.range;

@@ -17,7 +17,7 @@ use Rattle.san_reward.specs.Running.{rates_in, with_all_rates, with_impulses, ad
 use Rattle.san_reward.proofs.RatesSet.{rates_law}
 use Rattle.san_plain.specs.inner.Accounts.{RewardAccount, Reaches, impulses_of, with_event}
 use Rattle.san_law.specs.Trajectory.{trajectory}
-use Rattle.san_plain.specs.inner.Progress.{HasCounted, Stands, left_after, run_at}
+use Rattle.san_plain.specs.inner.Progress.{HasCounted, RunStands, left_after, run_at}
 use Rattle.san_report.specs.Pages.{Sent}
 use Rattle.san_plain.specs.Reports.{Opened, net_by, report_of}
 use Rattle.san_plain.specs.declared.counted.CountedRun.{CountedRun}
@@ -34,7 +34,7 @@ use Rattle.san_seq.specs.declared.steps.Stepped.TheVariants as stepped
 use Rattle.san_seq.proofs.ReachLemmas.{events_are_laws, events_in_time}
 use Rattle.san_seq.proofs.PublicAnswers.{event_answered}
 
-module _ (o : Opened) (es : List law.Event) (s : State) (c : CountedRun) (st : Stands o es s c) (event : Event) (said : stepped.Event event ≡ stepped_of (step_of c.seq).0) where
+module _ (o : Opened) (es : List law.Event) (s : State) (c : CountedRun) (st : RunStands o es s c) (event : Event) (said : stepped.Event event ≡ stepped_of (step_of c.seq).0) where
   abbrev net : Net
   net = net_by o
 
@@ -141,7 +141,7 @@ module _ (o : Opened) (es : List law.Event) (s : State) (c : CountedRun) (st : S
           early = omega (arith, on.now, in_time.present);
         }
 
-    pub stands_on : (d : CountedRun) → d.flat.now ≡ c.flat.now → d.limits ≡ c.limits → d.seq ≡ new → d.account ≡ with_event c.account event m → d.count ≡ c.count + 1 → Stands o (es ++ happened ∷ []) reached d
+    pub stands_on : (d : CountedRun) → d.flat.now ≡ c.flat.now → d.limits ≡ c.limits → d.seq ≡ new → d.account ≡ with_event c.account event m → d.count ≡ c.count + 1 → RunStands o (es ++ happened ∷ []) reached d
     stands_on d flat limits seq account count = record {
       known = st.known;
       range = st.range;
@@ -157,7 +157,7 @@ module _ (o : Opened) (es : List law.Event) (s : State) (c : CountedRun) (st : S
   inside = omega (arith, act_is, act_below o.network st.known happened.leaf happened.act done.act)
 
 -- the line of an event
-module _ (o : Opened) (es : List law.Event) (s : State) (c : CountedRun) (st : Stands o es s c) (event : Event) (happened : law.Event) (happens : (law.step (net_by o) s).0 ≡ law.Happened happened) (event_is : event_in o.network happened ≡ event) where
+module _ (o : Opened) (es : List law.Event) (s : State) (c : CountedRun) (st : RunStands o es s c) (event : Event) (happened : law.Event) (happens : (law.step (net_by o) s).0 ≡ law.Happened happened) (event_is : event_in o.network happened ≡ event) where
   line_is : event_line c.flat.now c.count event ≡ event_line o.network (length es) (event_in o.network happened)
   line_is =
       ap (λ (n : Network). event_line n c.count event) st.of_network

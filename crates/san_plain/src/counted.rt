@@ -6,7 +6,7 @@ ghost use Rattle.san_law.specs.State.{State};
 ghost use Rattle.san_law.specs.Step as law;
 ghost use Rattle.san_plain.specs.Reports.{Opened};
 ghost use Rattle.san_net.specs.Laid.{IsNetwork};
-ghost use Rattle.san_plain.specs.inner.Progress.{IsOpened, IsStanding, RunsOut, Stands, StepsTo};
+ghost use Rattle.san_plain.specs.inner.Progress.{IsOpened, IsStanding, RunsOut, RunStands, StepsTo};
 ghost use Rattle.san_plain.specs.inner.Progress.{opened_by};
 
 use crate::account::RewardAccount;
@@ -61,7 +61,7 @@ impl<'a> CountedRun<'a> {
     /// Takes a step: an event is counted, an ending is answered.
     pub(crate) fn step(&mut self) -> Result<Event, Ending>
         requires { IsStanding self.old }
-        ensures { (o : Opened) (es : List law.Event) (s : State) → Stands o es s self.old
+        ensures { (o : Opened) (es : List law.Event) (s : State) → RunStands o es s self.old
             → StepsTo o es s result self.old self.new }
     {
         match self.seq.step() {

@@ -20,7 +20,7 @@ use Rattle.san_law.proofs.Trajectories.{rest_is_trajectory}
 use Rattle.san_net.specs.Laid.{IsNetwork}
 use Rattle.san_net.specs.Network.{Network}
 use Rattle.san_net.specs.Tables.{importers_of}
-use Rattle.san_probe.specs.inner.Progress.{Stands, Watches, net_by, run_at, sum_until}
+use Rattle.san_probe.specs.inner.Progress.{ProbeStands, Watches, net_by, run_at, sum_until}
 use Rattle.san_probe.specs.Watching.{sum_values, value_at, watched_by, watched_in, watched_of}
 use Rattle.san_probe.specs.inner.Progress.{ticks_before}
 use Rattle.san_probe.specs.declared.measured.Watched.{Watched}
@@ -46,7 +46,7 @@ module _ (n : Network) (seed : ℕ) (limits : Limits) (net_is : IsNetwork n) whe
   abbrev net : Net
   net = net_by n seed limits
 
-  module _ (es : List law.Event) (s : State) (r : Run) (now : ℕ) (st : Stands n seed limits es s r now) where
+  module _ (es : List law.Event) (s : State) (r : Run) (now : ℕ) (st : ProbeStands n seed limits es s r now) where
     module _ (e : Event) (answered : (step_of r).0 ≡ Ok e) where
       pub laws : IsTheLaws (run_at n seed limits s) s e
       laws = events_are_laws (run_at n seed limits s) s e refl (ap (λ (x : Run). (step_of x).0) (sym st.at_state) ∙ answered)
@@ -60,7 +60,7 @@ module _ (n : Network) (seed : ℕ) (limits : Limits) (net_is : IsNetwork n) whe
       pub later : now ≤ e.time.0
       later = let a = in_time.later in let b = st.time in let c = time_is in omega (arith, a, b, c)
 
-      pub stands_on : Stands n seed limits (es ++ laws.event ∷ []) (law.step net s).1 (after_step r) e.time.0
+      pub stands_on : ProbeStands n seed limits (es ++ laws.event ∷ []) (law.step net s).1 (after_step r) e.time.0
       stands_on =
           let a = later in let b = time_is in let within = in_time.within in
           record {
@@ -93,7 +93,7 @@ module _ (n : Network) (seed : ℕ) (limits : Limits) (net_is : IsNetwork n) whe
 -- the beginning
 pub stands_first : (n : Network) (seed : ℕ) (limits : Limits) → IsNetwork n → ((place : ℕ) → place < n.shared → 2 ≤ length (importers_of n.parts place))
     → ((place : ℕ) → n.shared ≤ place → place < length n.initial → length (importers_of n.parts place) ≡ 1)
-    → Stands n seed limits [] (opening_state (net_by n seed limits)) (opening n seed limits) 0
+    → ProbeStands n seed limits [] (opening_state (net_by n seed limits)) (opening n seed limits) 0
 stands_first n seed limits net shared private = record {
   at_state = refl;
   runs = refl;
@@ -116,7 +116,7 @@ module _ (n : Network) (seed : ℕ) (limits : Limits) (net_is : IsNetwork n) (me
       let st = w.stands in
       let on = stands_on n seed limits net_is w.events w.state r now st e answered in
       let law_event = (laws n seed limits net_is w.events w.state r now st e answered).event in
-      let here : Stands n seed limits (w.events ++ law_event ∷ []) (law.step the_net w.state).1 s e.time.0 = subst (λ (x : Run). Stands n seed limits (w.events ++ law_event ∷ []) (law.step the_net w.state).1 x e.time.0) (sym left) on in
+      let here : ProbeStands n seed limits (w.events ++ law_event ∷ []) (law.step the_net w.state).1 s e.time.0 = subst (λ (x : Run). ProbeStands n seed limits (w.events ++ law_event ∷ []) (law.step the_net w.state).1 x e.time.0) (sym left) on in
       record {
         events = w.events ++ law_event ∷ [];
         state = (law.step the_net w.state).1;

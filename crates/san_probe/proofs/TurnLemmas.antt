@@ -11,7 +11,7 @@ use Rattle.san_law.specs.State.{opening_state}
 use Rattle.san_net.specs.Laid.{IsNetwork}
 use Rattle.san_net.specs.Network.{Network}
 use Rattle.san_net.specs.Tables.{importers_of}
-use Rattle.san_probe.specs.inner.Progress.{Stands, Watches, net_by}
+use Rattle.san_probe.specs.inner.Progress.{ProbeStands, Watches, net_by}
 use Rattle.san_probe.specs.Markings.{IsMarkingOf}
 use Rattle.san_probe.specs.Watching.{sum_values, value_at, watched_by, watched_of}
 use Rattle.san_probe.specs.inner.Progress.{ticks_before}
@@ -52,7 +52,7 @@ module _ (n : Network) (seed : ℕ) (limits : Limits) (net : IsNetwork n) (share
   watches_first measure from to value is = record {
     events = [];
     state = opening_state (net_by n seed limits);
-    stands = subst (λ (x : Run). Stands n seed limits [] (opening_state (net_by n seed limits)) x 0) (sym first) (stands_first n seed limits net shared private);
+    stands = subst (λ (x : Run). ProbeStands n seed limits [] (opening_state (net_by n seed limits)) x 0) (sym first) (stands_first n seed limits net shared private);
     counted = ap (λ (k : ℕ). sum_values (value_at measure (net_by n seed limits) []) from k) (none_before from to);
     present = is ∙ ap measure is_first;
   }

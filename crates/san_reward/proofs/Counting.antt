@@ -12,7 +12,7 @@ use Rattle.san_law.specs.Tally.{going_on, sum_of, sums_from, tally_worth}
 use Rattle.san_law.proofs.Tallies.{plus_last, sums_long, sums_at}
 use Rattle.san_reward.specs.Smallness.{IsAtMost}
 use Rattle.san_reward.specs.inner.Present.{counted_on, accrued, no_present, overlap, present_at, shown, times}
-use Rattle.san_reward.specs.inner.Counted.{IsCounted}
+use Rattle.san_reward.specs.inner.Counted.{HasSums}
 use Rattle.san_reward.specs.Running.{Running, advanced, net_in}
 use Rattle.san_net.specs.Network.{span_in}
 use Rattle.san_net.specs.declared.part.Span as interval
@@ -27,7 +27,7 @@ sums_like f g a (s ∷ ss) h =
     ∙ ap (λ x. g a s ∷ x) (sums_like f g (suc a) ss (λ r w l. h r w (omega (arith, l))))
 
 -- a reward's present rates over some ticks, as the law sums them
-pub gone_is : (t : Running) (present : List Present) (from to r : ℕ) (sum : Rated) → IsCounted t present → r < length t.spans → from ≤ to
+pub gone_is : (t : Running) (present : List Present) (from to r : ℕ) (sum : Rated) → HasSums t present → r < length t.spans → from ≤ to
     → counted_on t.spans present from to r sum ≡ going_on (net_in t) t.tally from (to - from) r sum
 gone_is t present from to r sum c h l =
     let net = net_in t in
@@ -42,7 +42,7 @@ gone_is t present from to r sum c h l =
 abbrev pub with_sums : Running → ℕ → List Rated → Running
 with_sums t to sums = record t { time = to; tally = record { rates = t.tally.rates; sums = sums; impulses = t.tally.impulses } }
 
-pub counts_on : (t : Running) (present : List Present) (to : ℕ) → IsCounted t present → t.time ≤ to → with_sums t to (sums_from (counted_on t.spans present t.time to) 0 t.tally.sums) ≡ advanced t to
+pub counts_on : (t : Running) (present : List Present) (to : ℕ) → HasSums t present → t.time ≤ to → with_sums t to (sums_from (counted_on t.spans present t.time to) 0 t.tally.sums) ≡ advanced t to
 counts_on t present to c h =
     let z : t.tally.impulses ≡ t.tally.impulses + 0 = omega arith in
     let same : sums_from (counted_on t.spans present t.time to) 0 t.tally.sums ≡ sums_from (λ r sum. plus (going_on (net_in t) t.tally t.time (to - t.time) r sum) zero_sum) 0 t.tally.sums =
@@ -52,7 +52,7 @@ counts_on t present to c h =
     ∙ ap (λ n. record t { time = to; tally = record { rates = t.tally.rates; sums = sums_from (λ r sum. plus (going_on (net_in t) t.tally t.time (to - t.time) r sum) zero_sum) 0 t.tally.sums; impulses = n } }) z
 
 -- the present rates of each reward are small
-pub present_small : (t : Running) (present : List Present) (r : ℕ) → IsCounted t present → unsigned_abs (present_at present r).sum ≤ 2 ^ 79
+pub present_small : (t : Running) (present : List Present) (r : ℕ) → HasSums t present → unsigned_abs (present_at present r).sum ≤ 2 ^ 79
 present_small t present r c = by_number (nat_lt r (length t.spans)) refl
   where
     by_number : (b : Bool) → nat_lt r (length t.spans) ≡ b → unsigned_abs (present_at present r).sum ≤ 2 ^ 79
@@ -96,7 +96,7 @@ changed_all f n old new c h = ext_get_or zero_sum new (sums_from f 0 old) (c.lon
     c.done k (omega (arith, l, h, c.long)) (omega (arith, l, c.long)) ∙ sym (sums_at f 0 k k old (omega (arith, l, c.long)) (omega arith)))
 
 -- all sums are small at the later time
-pub small_on : (t : Running) (present : List Present) (to r : ℕ) → IsCounted t present → t.time ≤ to → IsAtMost (to * 2 ^ 79 + t.tally.impulses * 2 ^ 63) (slice_index_or (sums_from (counted_on t.spans present t.time to) 0 t.tally.sums) r zero_sum)
+pub small_on : (t : Running) (present : List Present) (to r : ℕ) → HasSums t present → t.time ≤ to → IsAtMost (to * 2 ^ 79 + t.tally.impulses * 2 ^ 63) (slice_index_or (sums_from (counted_on t.spans present t.time to) 0 t.tally.sums) r zero_sum)
 small_on t present to r c h = by_number (nat_lt r (length t.tally.sums)) refl
   where
     f : ℕ → Rated → Rated
@@ -111,7 +111,7 @@ small_on t present to r c h = by_number (nat_lt r (length t.tally.sums)) refl
         (gone_at_most (t.time * 2 ^ 79 + t.tally.impulses * 2 ^ 63) ticks (sum_of t.tally r) (present_at present r) (c.small r) (present_small t present r c)))
     by_number false e = rw (get_or_past (sums_from f 0 t.tally.sums) r zero_sum (let l = ltb-false r (length t.tally.sums) e in let k = sums_long f 0 t.tally.sums in omega (arith, l, k))) (omega arith)
 
-pub stays_counted : (t : Running) (present : List Present) (to : ℕ) → IsCounted t present → t.time ≤ to → to ≤ t.horizon → IsCounted (with_sums t to (sums_from (counted_on t.spans present t.time to) 0 t.tally.sums)) present
+pub stays_counted : (t : Running) (present : List Present) (to : ℕ) → HasSums t present → t.time ≤ to → to ≤ t.horizon → HasSums (with_sums t to (sums_from (counted_on t.spans present t.time to) 0 t.tally.sums)) present
 stays_counted t present to c h l = record {
   horizon = c.horizon;
   time = l;
@@ -158,25 +158,25 @@ gone_same spans present from to r ticks sums w v s p a b d h k l e is = is ∙ (
     ∙ ap (accrued (slice_index_or sums r zero_sum) (present_at present r)) (e ∙ ap (λ x. overlap x from to) (ap span_in a ∙ span_at spans r s h))))
 
 -- an advance
-pub advanced_is : (t : Running) (present : List Present) (to : ℕ) (sums : List Rated) → IsCounted t present → t.time ≤ to → sums ≡ sums_from (counted_on t.spans present t.time to) 0 t.tally.sums → with_sums t to sums ≡ advanced t to
+pub advanced_is : (t : Running) (present : List Present) (to : ℕ) (sums : List Rated) → HasSums t present → t.time ≤ to → sums ≡ sums_from (counted_on t.spans present t.time to) 0 t.tally.sums → with_sums t to sums ≡ advanced t to
 advanced_is t present to sums c h e = ap (with_sums t to) e ∙ counts_on t present to c h
 
-pub advanced_counted : (t : Running) (present : List Present) (to : ℕ) (sums : List Rated) → IsCounted t present → t.time ≤ to → to ≤ t.horizon → sums ≡ sums_from (counted_on t.spans present t.time to) 0 t.tally.sums → IsCounted (with_sums t to sums) present
-advanced_counted t present to sums c h l e = subst (λ ss. IsCounted (with_sums t to ss) present) (sym e) (stays_counted t present to c h l)
+pub advanced_counted : (t : Running) (present : List Present) (to : ℕ) (sums : List Rated) → HasSums t present → t.time ≤ to → to ≤ t.horizon → sums ≡ sums_from (counted_on t.spans present t.time to) 0 t.tally.sums → HasSums (with_sums t to sums) present
+advanced_counted t present to sums c h l e = subst (λ ss. HasSums (with_sums t to ss) present) (sym e) (stays_counted t present to c h l)
 
 -- all sums are far inside 128 bits
-pub sum_fits : (t : Running) (present : List Present) (r : ℕ) → IsCounted t present → IsAtMost (2 ^ 120) (sum_of t.tally r)
+pub sum_fits : (t : Running) (present : List Present) (r : ℕ) → HasSums t present → IsAtMost (2 ^ 120) (sum_of t.tally r)
 sum_fits t present r c = let low = c.time in let top = c.horizon in let given = c.impulses in wider (t.time * 2 ^ 79 + t.tally.impulses * 2 ^ 63) (2 ^ 120) (sum_of t.tally r) (omega (arith, low, top, given)) (c.small r)
 
 -- the same of a value that a tally is seen as
-pub advance_ends : (t u : Running) (present : List Present) (to : ℕ) (sums : List Rated) → u ≡ t → IsCounted t present → u.time ≤ to → sums ≡ sums_from (counted_on t.spans present t.time to) 0 t.tally.sums → with_sums t to sums ≡ advanced u to
+pub advance_ends : (t u : Running) (present : List Present) (to : ℕ) (sums : List Rated) → u ≡ t → HasSums t present → u.time ≤ to → sums ≡ sums_from (counted_on t.spans present t.time to) 0 t.tally.sums → with_sums t to sums ≡ advanced u to
 advance_ends t u present to sums e c h is = let same = ap (λ (x : Running). x.time) e in advanced_is t present to sums c (omega (arith, h, same)) is ∙ ap (λ x. advanced x to) (sym e)
 
-pub advance_counted : (t u : Running) (present : List Present) (to : ℕ) (sums : List Rated) → u ≡ t → IsCounted t present → u.time ≤ to → to ≤ u.horizon → sums ≡ sums_from (counted_on t.spans present t.time to) 0 t.tally.sums → IsCounted (with_sums t to sums) present
+pub advance_counted : (t u : Running) (present : List Present) (to : ℕ) (sums : List Rated) → u ≡ t → HasSums t present → u.time ≤ to → to ≤ u.horizon → sums ≡ sums_from (counted_on t.spans present t.time to) 0 t.tally.sums → HasSums (with_sums t to sums) present
 advance_counted t u present to sums e c h l is = let same = ap (λ (x : Running). x.time) e in let end = ap (λ (x : Running). x.horizon) e in advanced_counted t present to sums c (omega (arith, h, same)) (omega (arith, l, end)) is
 
 -- a worth
-pub value_ends : (t u : Running) (present : List Present) (r : ℕ) (sum : Rated) (s : interval.Span) (p : Present) (v : Rated) (spans : List interval.Span) (ticks : ℕ) (w : law.Worth) → u ≡ t → IsCounted t present → r < length u.spans → t.spans ≡ map span_in spans → s ≡ slice_index_or spans r s → p ≡ slice_index_or present r p → v ≡ slice_index_or t.tally.sums r v
+pub value_ends : (t u : Running) (present : List Present) (r : ℕ) (sum : Rated) (s : interval.Span) (p : Present) (v : Rated) (spans : List interval.Span) (ticks : ℕ) (w : law.Worth) → u ≡ t → HasSums t present → r < length u.spans → t.spans ≡ map span_in spans → s ≡ slice_index_or spans r s → p ≡ slice_index_or present r p → v ≡ slice_index_or t.tally.sums r v
     → ticks ≡ overlap (span_in s) t.time (t.horizon + 1) → sum ≡ accrued v p ticks → w ≡ sum_worth (span_in s) sum → nat_lt (t.horizon + 1) (span_in s).to ≡ false → w ≡ tally_worth (net_in u) u.tally u.time r
 value_ends t u present r sum s p v spans ticks w e c h f a b d k is worth timely =
     let many = ap (λ (x : Running). length x.spans) e in
@@ -202,16 +202,16 @@ beyond_ends t u r s spans e h f a late =
     ∙ (ap (λ x. worth_by t.horizon x sum) span ∙ ap (λ (x : Running). tally_worth (net_in x) x.tally x.time r) (sym e))
 
 -- an interval ends far inside 64 bits
-pub span_is_low : (t u : Running) (present : List Present) (r : ℕ) (s : interval.Span) (spans : List interval.Span) → u ≡ t → IsCounted t present → r < length u.spans → t.spans ≡ map span_in spans → s ≡ slice_index_or spans r s → (span_in s).to < 2 ^ 64
+pub span_is_low : (t u : Running) (present : List Present) (r : ℕ) (s : interval.Span) (spans : List interval.Span) → u ≡ t → HasSums t present → r < length u.spans → t.spans ≡ map span_in spans → s ≡ slice_index_or spans r s → (span_in s).to < 2 ^ 64
 span_is_low t u present r s spans e c h f a =
     let many = ap (λ (x : Running). length x.spans) e in
     let size = ap length f ∙ length-map spans span_in in
     span_low spans r s a (omega (arith, h, many, size)) (subst (λ ss. All (λ x. x.to ≤ MAX_HORIZON + 1) ss) f c.spanned)
 
-pub present_is_low : (t u : Running) (present : List Present) (r : ℕ) (p : Present) → u ≡ t → IsCounted t present → r < length u.spans → p ≡ slice_index_or present r p → unsigned_abs p.sum ≤ 2 ^ 79
+pub present_is_low : (t u : Running) (present : List Present) (r : ℕ) (p : Present) → u ≡ t → HasSums t present → r < length u.spans → p ≡ slice_index_or present r p → unsigned_abs p.sum ≤ 2 ^ 79
 present_is_low t u present r p e c h b = let many = ap (λ (x : Running). length x.spans) e in present_low present r p b (omega (arith, h, many, c.sized)) (present_small t present r c)
 
-pub sum_is_low : (t u : Running) (present : List Present) (r : ℕ) (v : Rated) → u ≡ t → IsCounted t present → r < length u.spans → v ≡ slice_index_or t.tally.sums r v → IsAtMost (2 ^ 120) v
+pub sum_is_low : (t u : Running) (present : List Present) (r : ℕ) (v : Rated) → u ≡ t → HasSums t present → r < length u.spans → v ≡ slice_index_or t.tally.sums r v → IsAtMost (2 ^ 120) v
 sum_is_low t u present r v e c h d = let many = ap (λ (x : Running). length x.spans) e in sum_small (2 ^ 120) t.tally.sums r v d (omega (arith, h, many, c.sums)) (sum_fits t present r c)
 
 pub not_late : (a b : ℕ) → b ≤ a → nat_lt a b ≡ false

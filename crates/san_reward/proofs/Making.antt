@@ -18,7 +18,7 @@ use Rattle.san_net.specs.declared.part.Span.TheVariants as span
 use Rattle.san_reward.specs.Smallness.{IsAtMost}
 use Rattle.san_reward.specs.inner.Present.{amount_in, amounts, faults, faults_in, no_present, present_at, present_of, terms_of}
 use Rattle.san_reward.specs.inner.Present as counts
-use Rattle.san_reward.specs.inner.Counted.{IsCounted}
+use Rattle.san_reward.specs.inner.Counted.{HasSums}
 use Rattle.san_reward.specs.Running.{no_rates, opened, running_of, terms_in}
 use Rattle.san_reward.specs.declared.present.Present.{Present}
 
@@ -120,7 +120,7 @@ same_shape : (parts : List Part) → map length (map no_rates parts) ≡ map len
 same_shape [] = refl
 same_shape (p ∷ parts) = ap (λ n. n ∷ map length (map no_rates parts)) (length-replicate (length p.atomic.rates) zero_sum ∙ sym (length-map p.atomic.rates (λ t. t.reward))) ∙ ap (λ ns. length (terms_in p) ∷ ns) (same_shape parts)
 
-pub opened_counted : (n : Network) (horizon : ℕ) → IsNetwork n → horizon ≤ MAX_HORIZON → IsCounted (opened n horizon) (replicate (length n.rewards) no_present)
+pub opened_counted : (n : Network) (horizon : ℕ) → IsNetwork n → horizon ≤ MAX_HORIZON → HasSums (opened n horizon) (replicate (length n.rewards) no_present)
 opened_counted n horizon is h = record {
   horizon = h;
   time = omega arith;
@@ -149,5 +149,5 @@ module _ (n : Network) (horizon : ℕ) (rs : List Reward) (spans : List interval
       ∙ (ap (λ (xs : List Reward). running_of horizon 0 0 (map (λ r. r.span) xs) (map terms_in n.parts) (map no_rates n.parts) (replicate (length xs) zero_sum)) e
       ∙ ap (λ ss. record { horizon = horizon; time = 0; spans = ss; terms = map terms_in n.parts; tally = record { rates = map no_rates n.parts; sums = replicate (length n.rewards) zero_sum; impulses = 0 } }) (map-map span_in (λ r. r.span) n.rewards)))))
 
-  pub opened_keeps : (present : List Present) → present ≡ replicate (length rs) no_present → IsNetwork n → horizon ≤ MAX_HORIZON → IsCounted (running_of horizon 0 0 spans terms rates sums) present
-  opened_keeps present f is h = subst (λ t. IsCounted t present) (sym opened_is) (subst (λ ps. IsCounted (opened n horizon) ps) (sym (f ∙ ap (λ (xs : List Reward). replicate (length xs) no_present) e)) (opened_counted n horizon is h))
+  pub opened_keeps : (present : List Present) → present ≡ replicate (length rs) no_present → IsNetwork n → horizon ≤ MAX_HORIZON → HasSums (running_of horizon 0 0 spans terms rates sums) present
+  opened_keeps present f is h = subst (λ t. HasSums t present) (sym opened_is) (subst (λ ps. HasSums (opened n horizon) ps) (sym (f ∙ ap (λ (xs : List Reward). replicate (length xs) no_present) e)) (opened_counted n horizon is h))

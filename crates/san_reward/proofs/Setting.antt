@@ -17,7 +17,7 @@ use Rattle.san_law.specs.Tally.{sum_of}
 use Rattle.san_reward.specs.Running.{counted_at}
 use Rattle.san_reward.specs.Smallness.{IsAtMost}
 use Rattle.san_reward.specs.inner.Present.{amount, amount_in, amounts, fault, faults, faults_in, no_present, present_at, present_of, replaced}
-use Rattle.san_reward.specs.inner.Counted.{IsCounted}
+use Rattle.san_reward.specs.inner.Counted.{HasSums}
 use Rattle.san_reward.specs.Running.{Running, net_in, rates_with, with_all_rates, with_impulse, with_rate}
 use Rattle.san_reward.specs.declared.present.Present.{Present}
 
@@ -138,11 +138,11 @@ shape_kept (ws ∷ rates) zero k w = ap (λ n. n ∷ map length rates) (length-s
 shape_kept (ws ∷ rates) (suc j) k w = ap (λ ns. length ws ∷ ns) (shape_kept rates j k w)
 
 -- a term's reward is one of them
-pub reward_known : (t : Running) (present : List Present) (j k : ℕ) → IsCounted t present → j < length t.terms → k < length (slice_index_or t.terms j []) → slice_index_or (slice_index_or t.terms j []) k 0 < length t.spans
+pub reward_known : (t : Running) (present : List Present) (j k : ℕ) → HasSums t present → j < length t.terms → k < length (slice_index_or t.terms j []) → slice_index_or (slice_index_or t.terms j []) k 0 < length t.spans
 reward_known t present j k c h m = c.known j [] h k 0 m
 
-pub rate_counted : (t : Running) (present : List Present) (j k q : ℕ) (w v : Rated) → IsCounted t present → j < length t.terms → k < length (slice_index_or t.terms j []) → IsAtMost (2 ^ 63) w
-    → q ≡ slice_index_or (slice_index_or t.terms j []) k 0 → v ≡ slice_index_or (slice_index_or t.tally.rates j []) k None → IsCounted (with_rate t j k w) (slice_set present q (replaced (present_at present q) v w))
+pub rate_counted : (t : Running) (present : List Present) (j k q : ℕ) (w v : Rated) → HasSums t present → j < length t.terms → k < length (slice_index_or t.terms j []) → IsAtMost (2 ^ 63) w
+    → q ≡ slice_index_or (slice_index_or t.terms j []) k 0 → v ≡ slice_index_or (slice_index_or t.tally.rates j []) k None → HasSums (with_rate t j k w) (slice_set present q (replaced (present_at present q) v w))
 rate_counted t present j k q w v c h m small e is = record {
   horizon = c.horizon;
   time = c.time;
@@ -172,7 +172,7 @@ rate_counted t present j k q w v c h m small e is = record {
     by_reward r l (inr s) = get_or-set_other present q r (replaced (present_at present q) v w) no_present s.1 ∙ (c.each r l ∙ sym (other_reward k j q w t.terms t.tally.rates e h many m long r s.1))
 
 -- an impulse counted
-pub impulse_counted : (t : Running) (present : List Present) (r : ℕ) (w : Rated) → IsCounted t present → t.tally.impulses < MAX_IMPULSES → IsAtMost (2 ^ 63) w → IsCounted (with_impulse t r w) present
+pub impulse_counted : (t : Running) (present : List Present) (r : ℕ) (w : Rated) → HasSums t present → t.tally.impulses < MAX_IMPULSES → IsAtMost (2 ^ 63) w → HasSums (with_impulse t r w) present
 impulse_counted t present r w c few h = record {
   horizon = c.horizon;
   time = c.time;
@@ -212,7 +212,7 @@ abbrev pub with_counted : Running → List Rated → Running
 with_counted t sums = record t { tally = record { rates = t.tally.rates; sums = sums; impulses = t.tally.impulses + 1 } }
 
 -- the reward of a term that is set, and the rate before
-module _ (t u : Running) (present : List Present) (j k : ℕ) (e : u ≡ t) (c : IsCounted t present) (h : j < length u.terms) (m : k < length (slice_index_or u.terms j [])) where
+module _ (t u : Running) (present : List Present) (j k : ℕ) (e : u ≡ t) (c : HasSums t present) (h : j < length u.terms) (m : k < length (slice_index_or u.terms j [])) where
   leaf_in : j < length t.terms
   leaf_in = let same = ap (λ (x : Running). length x.terms) e in omega (arith, h, same)
 
@@ -239,14 +239,14 @@ module _ (t u : Running) (present : List Present) (j k : ℕ) (e : u ≡ t) (c :
       pub fault_in : fault v ≤ (present_at present q).faults
       fault_in = let low = fault_within k j q t.terms t.tally.rates is leaf_in leaf_of_rates term_in rates_in in let same = ap (λ (p : Present). p.faults) (c.each q reward_of_tally) in let one = ap fault was in omega (arith, low, same, one)
 
-      pub rate_keeps : (w : Rated) (rates : List (List Rated)) (now : List Present) → IsAtMost (2 ^ 63) w → rates ≡ rates_with t.tally.rates j k w → now ≡ slice_set present q (replaced (present_at present q) v w) → IsCounted (with_all_rates t rates) now
-      rate_keeps w rates now small a b = subst (λ ps. IsCounted (with_all_rates t rates) ps) (sym b) (subst (λ rs. IsCounted (with_all_rates t rs) (slice_set present q (replaced (present_at present q) v w))) (sym a) (rate_counted t present j k q w v c leaf_in term_in small is was))
+      pub rate_keeps : (w : Rated) (rates : List (List Rated)) (now : List Present) → IsAtMost (2 ^ 63) w → rates ≡ rates_with t.tally.rates j k w → now ≡ slice_set present q (replaced (present_at present q) v w) → HasSums (with_all_rates t rates) now
+      rate_keeps w rates now small a b = subst (λ ps. HasSums (with_all_rates t rates) ps) (sym b) (subst (λ rs. HasSums (with_all_rates t rs) (slice_set present q (replaced (present_at present q) v w))) (sym a) (rate_counted t present j k q w v c leaf_in term_in small is was))
 
   pub rate_ends : (w : Rated) (rates : List (List Rated)) → rates ≡ rates_with t.tally.rates j k w → with_all_rates t rates ≡ with_rate u j k w
   rate_ends w rates a = ap (with_all_rates t) a ∙ ap (λ x. with_rate x j k w) (sym e)
 
 -- an impulse's reward is one of them
-module _ (t u : Running) (present : List Present) (r : ℕ) (w added : Rated) (s : interval.Span) (spans : List interval.Span) (sums : List Rated) (e : u ≡ t) (c : IsCounted t present) (h : r < length u.spans) (f : t.spans ≡ map span_in spans) (a : s ≡ slice_index_or spans r s) (is : added ≡ counted_at (span_in s) t.time w) (puts : sums ≡ slice_set t.tally.sums r (plus (sum_of t.tally r) added)) where
+module _ (t u : Running) (present : List Present) (r : ℕ) (w added : Rated) (s : interval.Span) (spans : List interval.Span) (sums : List Rated) (e : u ≡ t) (c : HasSums t present) (h : r < length u.spans) (f : t.spans ≡ map span_in spans) (a : s ≡ slice_index_or spans r s) (is : added ≡ counted_at (span_in s) t.time w) (puts : sums ≡ slice_set t.tally.sums r (plus (sum_of t.tally r) added)) where
   counted_sums : sums ≡ slice_set t.tally.sums r (plus (sum_of t.tally r) (counted_at (span_of (net_in t) r) t.time w))
   counted_sums =
       let many = ap (λ (x : Running). length x.spans) e in
@@ -257,5 +257,5 @@ module _ (t u : Running) (present : List Present) (r : ℕ) (w added : Rated) (s
   pub impulse_ends : with_counted t sums ≡ with_impulse u r w
   impulse_ends = ap (with_counted t) counted_sums ∙ ap (λ x. with_impulse x r w) (sym e)
 
-  pub impulse_keeps : u.tally.impulses < MAX_IMPULSES → IsAtMost (2 ^ 63) w → IsCounted (with_counted t sums) present
-  impulse_keeps few small = let same = ap (λ (x : Running). x.tally.impulses) e in subst (λ ss. IsCounted (with_counted t ss) present) (sym counted_sums) (impulse_counted t present r w c (omega (arith, few, same)) small)
+  pub impulse_keeps : u.tally.impulses < MAX_IMPULSES → IsAtMost (2 ^ 63) w → HasSums (with_counted t sums) present
+  impulse_keeps few small = let same = ap (λ (x : Running). x.tally.impulses) e in subst (λ ss. HasSums (with_counted t ss) present) (sym counted_sums) (impulse_counted t present r w c (omega (arith, few, same)) small)

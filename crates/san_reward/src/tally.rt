@@ -35,7 +35,7 @@ pub struct Tally {
 impl Model for Tally {
     ghost use Rattle.std.specs.Prelude.{map};
     ghost use Rattle.san_net.specs.Network.{span_in};
-    ghost use Rattle.san_reward.specs.inner.Counted.{IsCounted};
+    ghost use Rattle.san_reward.specs.inner.Counted.{HasSums};
     ghost use Rattle.san_reward.specs.Running.{Running, running_of};
 
     ghost Value = { Running };
@@ -43,7 +43,7 @@ impl Model for Tally {
     ghost view = { λ t. running_of t.horizon.0 t.time.0 t.impulses t.spans.items
         (map (λ v. v.items) t.terms.items) (map (λ v. v.items) t.rates.items) t.sums.items };
 
-    ghost invariant = { λ t. IsCounted (running_of t.horizon.0 t.time.0 t.impulses t.spans.items
+    ghost invariant = { λ t. HasSums (running_of t.horizon.0 t.time.0 t.impulses t.spans.items
         (map (λ v. v.items) t.terms.items) (map (λ v. v.items) t.rates.items) t.sums.items)
         t.present.items };
 }

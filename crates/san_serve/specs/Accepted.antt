@@ -54,14 +54,14 @@ accepted_syntax text (Err refusal) = Err refusal
 unfoldable pub accepted : List ℕ → Result Network Refusal
 accepted text = accepted_syntax text (parsed text)
 
-abbrev pub Refuses : NotAccepted → Result Network Refusal → Type 0
-Refuses (not_accepted.Refused refusal) read = read ≡ Err refusal
-Refuses not_accepted.NoMemory read = Unit {0}
+abbrev pub RefusesText : NotAccepted → Result Network Refusal → Type 0
+RefusesText (not_accepted.Refused refusal) read = read ≡ Err refusal
+RefusesText not_accepted.NoMemory read = Unit {0}
 
 -- what was answered is what the text is, unless memory ran out
 abbrev pub Accepts : Result Accepted NotAccepted → List ℕ → Type 0
 Accepts (Ok a) text = (parsed text ≡ Ok a.parsed) × (accepted text ≡ Ok a.flat)
-Accepts (Err e) text = Refuses e (accepted text)
+Accepts (Err e) text = RefusesText e (accepted text)
 
 -- a text that isn't accepted is refused so
 abbrev pub IsRefusedText : List ℕ → Refusal → Type 0

@@ -1,21 +1,21 @@
 -- Two places of one leaf have two homes.
 use Rattle.std.proofs.Common.{◌≡◌, ℕ, ◌+◌, ◌≤◌, List, [], ◌∷◌, Option, Some, None, length, refl, ap, sym, ◌∙◌, arith}
 use Rattle.san_tree.specs.declared.node.Node.{Node}
-use Rattle.san_tree.specs.Places.{Step, node_at, child_of, shared_as, chain, climb, home, either, SharesApart}
+use Rattle.san_tree.specs.Places.{PathStep, node_at, child_of, shared_as, chain, climb, home, either, SharesApart}
 use Rattle.san_tree.specs.declared.home.Home.{Home}
 
 abbrev at_depth : ℕ → ℕ → Home
 at_depth d p = record { depth = d; place = p }
 
-abbrev AllApart : List Step → Type 0
+abbrev AllApart : List PathStep → Type 0
 AllApart [] = Unit {0}
 AllApart ((node, c) ∷ above) = SharesApart node × AllApart above
 
-chain-apart : (nodes : List Node) → ((n : ℕ) → SharesApart (node_at nodes n)) → (n : ℕ) (path : List ℕ) (above : List Step) → AllApart above → AllApart (chain nodes n path above)
+chain-apart : (nodes : List Node) → ((n : ℕ) → SharesApart (node_at nodes n)) → (n : ℕ) (path : List ℕ) (above : List PathStep) → AllApart above → AllApart (chain nodes n path above)
 chain-apart nodes h n [] above a = a
 chain-apart nodes h n (c ∷ path) above a = chain-apart nodes h (child_of (node_at nodes n) c) path ((node_at nodes n, c) ∷ above) (h n, a)
 
-pub climb-near : (p : ℕ) (above : List Step) → (climb p above).depth ≤ length above
+pub climb-near : (p : ℕ) (above : List PathStep) → (climb p above).depth ≤ length above
 unfolding climb
 climb-near p [] = omega arith
 climb-near p ((node, c) ∷ above) = by_share (shared_as node c p) (λ q. climb-near q above)
@@ -24,7 +24,7 @@ climb-near p ((node, c) ∷ above) = by_share (shared_as node c p) (λ q. climb-
     by_share None h = omega arith
     by_share (Some q) h = omega (arith, h q)
 
-climb-apart : (above : List Step) → AllApart above → (p q : ℕ) → climb p above ≡ climb q above → p ≡ q
+climb-apart : (above : List PathStep) → AllApart above → (p q : ℕ) → climb p above ≡ climb q above → p ≡ q
 unfolding climb
 climb-apart [] a p q h = ap (λ v. v.place) h
 climb-apart ((node, c) ∷ above) a p q h = by_share (shared_as node c p) (shared_as node c q) refl refl (λ x y. climb-apart above a.1 x y) h

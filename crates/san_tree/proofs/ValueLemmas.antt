@@ -2,7 +2,7 @@
 use Rattle.std.proofs.Common.{◌≡◌, ℕ, zero, suc, ◌+◌, List, [], ◌∷◌, Option, Some, None, take, refl, ap, sym, ◌∙◌, arith}
 use Rattle.san_tree.specs.declared.node.Node.{Node}
 use Rattle.san_tree.specs.declared.home.Home.{Home}
-use Rattle.san_tree.specs.Places.{Step, node_at, child_of, shared_as, chain, climb, home, reached, Keeps}
+use Rattle.san_tree.specs.Places.{PathStep, node_at, child_of, shared_as, chain, climb, home, reached, Keeps}
 use Rattle.san_tree.specs.inner.Walks.{settled}
 use Rattle.san_tree.proofs.ClimbLemmas.{settled-zero, settled-up, settled-shared, settled-unshared, home-settled}
 
@@ -10,14 +10,14 @@ use Rattle.san_tree.proofs.ClimbLemmas.{settled-zero, settled-up, settled-shared
 record Climbs {V : Type 0} (nodes : List Node) (shown : ℕ → ℕ → V) (n : ℕ) (path : List ℕ) (p : ℕ) : Type 0 where
   depth : ℕ
   place : ℕ
-  way : (above : List Step) → climb p (chain nodes n path above) ≡ settled depth place above
+  way : (above : List PathStep) → climb p (chain nodes n path above) ≡ settled depth place above
   kept : shown (reached nodes n (take depth path)) place ≡ shown (reached nodes n path) p
 
 climbs : {V : Type 0} (nodes : List Node) (shown : ℕ → ℕ → V) → Keeps nodes shown → (n : ℕ) (path : List ℕ) (p : ℕ) → Climbs nodes shown n path p
 climbs nodes shown h n [] p = record { depth = 0; place = p; way = λ above. sym (settled-zero p above); kept = refl }
 climbs nodes shown h n (c ∷ path) p = by_share (climbs nodes shown h (child_of (node_at nodes n) c) path p)
   where
-    by_depth : (d q : ℕ) → ((above : List Step) → climb p (chain nodes (child_of (node_at nodes n) c) path above) ≡ settled d q above) → shown (reached nodes (child_of (node_at nodes n) c) (take d path)) q ≡ shown (reached nodes (child_of (node_at nodes n) c) path) p → (o : Option ℕ) → shared_as (node_at nodes n) c q ≡ o → Climbs nodes shown n (c ∷ path) p
+    by_depth : (d q : ℕ) → ((above : List PathStep) → climb p (chain nodes (child_of (node_at nodes n) c) path above) ≡ settled d q above) → shown (reached nodes (child_of (node_at nodes n) c) (take d path)) q ≡ shown (reached nodes (child_of (node_at nodes n) c) path) p → (o : Option ℕ) → shared_as (node_at nodes n) c q ≡ o → Climbs nodes shown n (c ∷ path) p
     by_depth (suc d) q w k o e =
         let up : suc d + 1 ≡ suc (suc d) = omega arith in
         record { depth = suc (suc d); place = q; way = λ above. w ((node_at nodes n, c) ∷ above) ∙ settled-up (suc d) q (node_at nodes n, c) above (omega arith) ∙ ap (λ x. settled x q above) up; kept = k }

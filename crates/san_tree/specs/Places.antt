@@ -42,11 +42,11 @@ width (Join _ shares) = length shares
 width (Rep _ _ shares) = length shares
 
 -- a node, and the number by which a path goes on below it
-abbrev pub Step : Type 0
-Step = Node × ℕ
+abbrev pub PathStep : Type 0
+PathStep = Node × ℕ
 
 -- the nodes above the end of a path from node n, nearest first, before those above n
-abbrev pub chain : List Node → ℕ → List ℕ → List Step → List Step
+abbrev pub chain : List Node → ℕ → List ℕ → List PathStep → List PathStep
 chain nodes n [] above = above
 chain nodes n (c ∷ path) above = chain nodes (child_of (node_at nodes n) c) path ((node_at nodes n, c) ∷ above)
 
@@ -55,7 +55,7 @@ either stop on None = stop
 either stop on (Some p) = on p
 
 -- at each node that shares the place it becomes that node's place; at the first that doesn't, stop
-unfoldable pub climb : ℕ → List Step → Home
+unfoldable pub climb : ℕ → List PathStep → Home
 climb place [] = record { depth = 0; place = place }
 climb place ((node, child) ∷ above) =
     either (record { depth = length above + 1; place = place }) (λ p. climb p above) (shared_as node child place)

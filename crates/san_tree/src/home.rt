@@ -3,7 +3,7 @@
 ghost use Rattle.std.specs.Prelude.{◌≡◌, ◌≤◌, ℕ, List, length, IfSome};
 ghost use Rattle.indexmap.specs.IndexMap.{get};
 ghost use Rattle.san_tree.specs.declared.limits.TheConstants.{MAX_PATH, MAX_SHARES};
-ghost use Rattle.san_tree.specs.Places.{child_of, shared_as, width, node_at, climb, chain, Step};
+ghost use Rattle.san_tree.specs.Places.{child_of, shared_as, width, node_at, climb, chain, PathStep};
 ghost use Rattle.san_tree.specs.inner.Shared.{Knows, same_part};
 ghost use Rattle.san_tree.specs.inner.Walks.{settled};
 
@@ -33,7 +33,7 @@ pub(crate) fn climb(
     requires short { length path.now ≤ MAX_PATH }
     requires narrow { (k : ℕ) → width (node_at nodes.now k) ≤ MAX_SHARES }
     ensures near { result.depth ≤ length path.now }
-    ensures way { (above : List Step) → climb place (chain nodes.now n path.now above) ≡ settled result.depth result.place above }
+    ensures way { (above : List PathStep) → climb place (chain nodes.now n path.now above) ≡ settled result.depth result.place above }
 {
     match path {
         [] => Home { depth: 0, place },

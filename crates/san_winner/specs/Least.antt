@@ -50,7 +50,7 @@ abbrev pub IsPower : ℕ → Type 0
 IsPower size = (h : ℕ) × (size ≡ 2 ^ h)
 
 -- a tree of so many lowest nodes over these keys
-pub record Stands (size : ℕ) (keys : List (Option ℕ)) (nodes : List Won) : Type 0 where
+pub record TreeStands (size : ℕ) (keys : List (Option ℕ)) (nodes : List Won) : Type 0 where
   pub power : IsPower size
   pub small : size < MAX_SIZE
   pub room : length keys ≤ size

@@ -19,13 +19,13 @@ pub struct Winners {
 
 impl Model for Winners {
     ghost use Rattle.std.specs.Prelude.{ℕ, List, Option};
-    ghost use Rattle.san_winner.specs.Least.{Stands};
+    ghost use Rattle.san_winner.specs.Least.{TreeStands};
 
     ghost Value = { List (Option ℕ) };
 
     ghost view = { λ s. s.keys.items };
 
-    ghost invariant = { λ s. Stands s.size s.keys.items s.nodes.items };
+    ghost invariant = { λ s. TreeStands s.size s.keys.items s.nodes.items };
 }
 
 impl Winners {

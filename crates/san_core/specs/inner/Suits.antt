@@ -6,7 +6,7 @@ use Rattle.san_law.specs.State.{part_of}
 use Rattle.san_law.specs.Piece.{Kind, LeafState, Outcome, Refresh}
 
 -- what the lists of code ask of a network: an impulse is of a reward that is there, a leaf has at most 256 places, as many rates as terms, and as many timers after a renewal
-pub record IsBounded (net : Net) : Type 0 where
+pub record FitsLists (net : Net) : Type 0 where
   pub known : (j k : ℕ) (l : Local) (d : Done) → net.done j k l ≡ Ok d → All (λ x. x.reward < length net.spans) d.impulses
   pub places : (j : ℕ) → length (part_of net j) ≤ MAX_CELLS
   pub rates : (j : ℕ) (values : List ℕ) → length (net.rates j values) ≡ length (net.terms j)

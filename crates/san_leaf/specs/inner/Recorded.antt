@@ -15,7 +15,7 @@ abbrev pub recorded_of : List (ℕ × ℕ) → List Impulse → Recorded
 recorded_of events impulses = record { completions = completions_from 0 events impulses; pending = impulses_at (length events) impulses }
 
 -- at most 64 completions, of activities of a network, and no impulse of a later one
-pub record AreRecorded (events : List (ℕ × ℕ)) (impulses : List Impulse) : Type 0 where
+pub record AreWellRecorded (events : List (ℕ × ℕ)) (impulses : List Impulse) : Type 0 where
   pub few : length events ≤ 64
   pub acts : All (λ e. e.0 < MAX_ACTS) events
   pub early : All (λ x. x.event ≤ length events) impulses

@@ -19,11 +19,11 @@ close_in (close.FailsTest k trap) = law.FailsTest k trap
 close_in (close.FailsDone k trap) = law.FailsDone k trap
 
 -- the activity that traps has a number below another
-abbrev pub IsWithin : ℕ → Close → Type 0
-IsWithin n close.Rests = Unit {0}
-IsWithin n close.More = Unit {0}
-IsWithin n (close.FailsTest k trap) = k < n
-IsWithin n (close.FailsDone k trap) = k < n
+abbrev pub ClosesWithin : ℕ → Close → Type 0
+ClosesWithin n close.Rests = Unit {0}
+ClosesWithin n close.More = Unit {0}
+ClosesWithin n (close.FailsTest k trap) = k < n
+ClosesWithin n (close.FailsDone k trap) = k < n
 
 -- what is found has one, if anything is
 abbrev pub FoundWithin : ℕ → FirstInstant → Type 0
@@ -36,7 +36,7 @@ abbrev pub with_cases : Row → List ℕ → Row
 with_cases row cases = record { timers = row.timers; delays = row.delays; cases = cases }
 
 -- completions were made over a view, and recorded
-pub record IsMade (block : Meaning Made) (was now : Recorded) (row after : Row) (old new : ViewState) (end : Close) : Type 0 where
+pub record MakesRecorded (block : Meaning Made) (was now : Recorded) (row after : Row) (old new : ViewState) (end : Close) : Type 0 where
   pub made : Made
   pub meets : Meets old new block (Ok made)
   pub recorded : now ≡ record { completions = was.completions ++ made.completions; pending = [] }
@@ -44,13 +44,13 @@ pub record IsMade (block : Meaning Made) (was now : Recorded) (row after : Row) 
   pub closed : close_in end ≡ made.close
 
 -- one completion was made and recorded, and then the block goes on
-pub record GoesOn (block : (List ℕ → Meaning Made) → Meaning Made) (was now : Recorded) (row after : Row) (old mid : ViewState) : Type 0 where
+pub record CompletesOnce (block : (List ℕ → Meaning Made) → Meaning Made) (was now : Recorded) (row after : Row) (old mid : ViewState) : Type 0 where
   pub completion : law.Completion
   pub recorded : now ≡ record { completions = was.completions ++ completion ∷ []; pending = [] }
   pub counted : after ≡ with_cases row after.cases
   pub meets : (go : List ℕ → Meaning Made) (new : ViewState) (made : Made) → Meets mid new (go after.cases) (Ok made) → Meets old new (block go) (Ok (made_before completion made))
 
 -- a turn ends the block, or makes a completion
-abbrev pub TurnedTo : ((List ℕ → Meaning Made) → Meaning Made) → Recorded → Recorded → Row → Row → ViewState → ViewState → Option Close → Type 0
-TurnedTo block was now row after old new None = GoesOn block was now row after old new
-TurnedTo block was now row after old new (Some end) = (go : List ℕ → Meaning Made) → IsMade (block go) was now row after old new end
+abbrev pub TakesTurn : ((List ℕ → Meaning Made) → Meaning Made) → Recorded → Recorded → Row → Row → ViewState → ViewState → Option Close → Type 0
+TakesTurn block was now row after old new None = CompletesOnce block was now row after old new
+TakesTurn block was now row after old new (Some end) = (go : List ℕ → Meaning Made) → MakesRecorded (block go) was now row after old new end

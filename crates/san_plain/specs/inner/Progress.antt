@@ -49,7 +49,7 @@ abbrev pub run_at : Opened → State → Run
 run_at o s = record { network = o.network; seed = o.seed; limits = o.limits; run_phase = On s }
 
 -- a run stands for a state that the law's run comes to by these events
-pub record Stands (o : Opened) (es : List law.Event) (s : State) (c : CountedRun) : Type 0 where
+pub record RunStands (o : Opened) (es : List law.Event) (s : State) (c : CountedRun) : Type 0 where
   pub known : IsNetwork o.network
   pub range : IsInRange o.limits
   pub of_network : c.flat.now ≡ o.network
@@ -61,14 +61,14 @@ pub record Stands (o : Opened) (es : List law.Event) (s : State) (c : CountedRun
 
 -- it does for some state of some run
 abbrev pub IsStanding : CountedRun → Type 0
-IsStanding c = (o : Opened) × (es : List law.Event) × (s : State) × Stands o es s c
+IsStanding c = (o : Opened) × (es : List law.Event) × (s : State) × RunStands o es s c
 
 -- a step with an event
 pub record Happens (o : Opened) (es : List law.Event) (s : State) (event : Event) (old new : CountedRun) : Type 0 where
   pub happened : law.Event
   pub happens : (law.step (net_by o) s).0 ≡ law.Happened happened
   pub event_is : event_in o.network happened ≡ event
-  pub stands : Stands o (es ++ happened ∷ []) (law.step (net_by o) s).1 new
+  pub stands : RunStands o (es ++ happened ∷ []) (law.step (net_by o) s).1 new
   pub fewer : steps_left new.seq < steps_left old.seq
   pub inside : event.act.0 < acts_of new.flat.now.parts
 
@@ -94,7 +94,7 @@ pub record RunsOut (o : Opened) (out : Outcome) (c : CountedRun) : Type 0 where
   pub events : List law.Event
   pub state : State
   pub before : CountedRun
-  pub stands : Stands o events state before
+  pub stands : RunStands o events state before
   pub ends : Ends o state out.ending before c
   pub last : IsLastOf o.network events out.last
 
@@ -110,7 +110,7 @@ left_after o es (Some t) = event_lines o.network (length es) t.events ++ (ending
 
 -- of the report all lines up to a run's state were put
 abbrev pub IsUnderWay : Opened → Option (List ℕ) → Option (List ℕ) → RunInProgress → Type 0
-IsUnderWay o first now c = (es : List law.Event) × (s : State) × Stands o es s c.run × Sent first now c.pages (report_of o) (left_after o es (trajectory (net_by o) s))
+IsUnderWay o first now c = (es : List law.Event) × (s : State) × RunStands o es s c.run × Sent first now c.pages (report_of o) (left_after o es (trajectory (net_by o) s))
 
 -- a run has ended, and of its text all but the closing lines were put
 pub record IsOver (o : Opened) (text : List ℕ) (first now : Option (List ℕ)) (c : CountedRun) (page : List ℕ) (e : Ending) : Type 0 where

@@ -20,7 +20,7 @@ abbrev pub run_at : Network → ℕ → Limits → State → Run
 run_at n seed limits s = record { network = n; seed = seed; limits = limits; run_phase = On s }
 
 -- after these events it is at this state, at this time
-pub record Stands (n : Network) (seed : ℕ) (limits : Limits) (es : List law.Event) (s : State) (r : Run) (now : ℕ) : Type 0 where
+pub record ProbeStands (n : Network) (seed : ℕ) (limits : Limits) (es : List law.Event) (s : State) (r : Run) (now : ℕ) : Type 0 where
   pub at_state : r ≡ run_at n seed limits s
   pub runs : Runs (net_by n seed limits) (opening_state (net_by n seed limits)) es s
   pub early : AllTo now es
@@ -40,6 +40,6 @@ sum_until measure net from to es time = sum_values (value_at measure net es) fro
 pub record Watches (n : Network) (seed : ℕ) (limits : Limits) (measure : List ℕ → ℤ) (from to : ℕ) (r : Run) (sum : ℤ) (now : ℕ) (value : ℤ) : Type 0 where
   pub events : List law.Event
   pub state : State
-  pub stands : Stands n seed limits events state r now
+  pub stands : ProbeStands n seed limits events state r now
   pub counted : sum ≡ sum_until measure (net_by n seed limits) from to events now
   pub present : value ≡ measure state.marking

@@ -9,7 +9,7 @@ use Rattle.san_reward.specs.inner.Present.{present_at, present_of, terms_of}
 use Rattle.san_reward.specs.inner.Bounds.{MAX_AMOUNT, MAX_PRESENT}
 
 -- what is kept of a tally: the sums of each reward's present rates are at hand, and all sums are small
-pub record IsCounted (t : Running) (present : List Present) : Type 0 where
+pub record HasSums (t : Running) (present : List Present) : Type 0 where
   pub horizon : t.horizon ≤ MAX_HORIZON
   pub time : t.time ≤ t.horizon
   pub impulses : t.tally.impulses ≤ MAX_IMPULSES

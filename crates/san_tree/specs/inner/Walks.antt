@@ -6,7 +6,7 @@ use Rattle.san_tree.specs.declared.instance.Instance.{Instance}
 use Rattle.san_tree.specs.declared.node.Node.{Node}
 use Rattle.san_tree.specs.declared.node.Node.TheVariants.{Leaf, Join, Rep}
 use Rattle.san_tree.specs.Instances.{grown}
-use Rattle.san_tree.specs.Places.{Step, climb}
+use Rattle.san_tree.specs.Places.{PathStep, climb}
 
 -- the number of leaves of a node, from the numbers of the earlier nodes' leaves
 abbrev pub counted : List ℕ → Node → ℕ
@@ -19,6 +19,6 @@ abbrev pub earlier : List Node → ℕ → List (List Instance)
 earlier nodes n = take n (grown [] nodes)
 
 -- a climb that came to node n's own place at depth 0 goes on above n; one that stopped below n stays
-unfoldable pub settled : ℕ → ℕ → List Step → Home
+unfoldable pub settled : ℕ → ℕ → List PathStep → Home
 settled zero place above = climb place above
 settled (suc depth) place above = record { depth = length above + suc depth; place = place }

@@ -2,7 +2,7 @@ use Rattle.std.proofs.Common.{arith, ◌≡◌, ◌∙◌, ◌+◌, ◌-◌, ◌
 use Rattle.std.proofs.lemmas.Grind.{common_steps}
 use Rattle.san_draw.specs.Key.{draw_of}
 use Rattle.san_leaf.specs.Blocks.{block_of, turn_of}
-use Rattle.san_leaf.specs.inner.Turns.{GoesOn, IsMade, TurnedTo}
+use Rattle.san_leaf.specs.inner.Turns.{CompletesOnce, MakesRecorded, TakesTurn}
 use Rattle.san_leaf.specs.inner.ViewStates.{view_state_of}
 use Rattle.san_leaf.specs.declared.block.Close.{Close}
 use Rattle.san_leaf.proofs.TurnLemmas.{Stands, room_after, stands_end, stands_more}
@@ -16,12 +16,12 @@ returns-in-Some-clause-made g c =
     let now = view_state_of c.turns.view in
     let new = view_state_of c.turn.new.view in
     let one : c.turns.left ≡ suc (c.turns.left - 1) = omega (arith, c.turns-test.true) in
-    let turned : TurnedTo (turn_of draw p c.turns.row.cases) c.turns.recorder c.turn.new.recorder c.turns.row c.turn.new.row now new c.in_ok-close.field-0 =
-    subst (λ (d : ℕ). TurnedTo (turn_of (draw_of d) p c.turns.row.cases) c.turns.recorder c.turn.new.recorder c.turns.row c.turn.new.row now new c.in_ok-close.field-0) (ap g.D.DrawSource.seed i.draws) c.in_ok-close.ensures.turned in
-    let ends : (go : List ℕ → _) → IsMade (turn_of draw p c.turns.row.cases go) c.turns.recorder c.turn.new.recorder c.turns.row c.turn.new.row now new c.in-Some.close =
-    subst (λ (o : Option Close). TurnedTo (turn_of draw p c.turns.row.cases) c.turns.recorder c.turn.new.recorder c.turns.row c.turn.new.row now new o) c.in-Some.is turned in
+    let turned : TakesTurn (turn_of draw p c.turns.row.cases) c.turns.recorder c.turn.new.recorder c.turns.row c.turn.new.row now new c.in_ok-close.field-0 =
+    subst (λ (d : ℕ). TakesTurn (turn_of (draw_of d) p c.turns.row.cases) c.turns.recorder c.turn.new.recorder c.turns.row c.turn.new.row now new c.in_ok-close.field-0) (ap g.D.DrawSource.seed i.draws) c.in_ok-close.ensures.turned in
+    let ends : (go : List ℕ → _) → MakesRecorded (turn_of draw p c.turns.row.cases go) c.turns.recorder c.turn.new.recorder c.turns.row c.turn.new.row now new c.in-Some.close =
+    subst (λ (o : Option Close). TakesTurn (turn_of draw p c.turns.row.cases) c.turns.recorder c.turn.new.recorder c.turns.row c.turn.new.row now new o) c.in-Some.is turned in
     i.stands c.turn.new.recorder c.turn.new.row new c.in-Some.close
-    (subst (λ (n : ℕ). IsMade (block_of draw p n c.turns.row.cases) c.turns.recorder c.turn.new.recorder c.turns.row c.turn.new.row now new c.in-Some.close) (sym one) (ends (block_of draw p (c.turns.left - 1))))
+    (subst (λ (n : ℕ). MakesRecorded (block_of draw p n c.turns.row.cases) c.turns.recorder c.turn.new.recorder c.turns.row c.turn.new.row now new c.in-Some.close) (sym one) (ends (block_of draw p (c.turns.left - 1))))
 
 pub turns-preserved : goal.turns-preserved
 turns-preserved g c =
@@ -34,9 +34,9 @@ turns-preserved g c =
     let new = view_state_of c.turn.new.view in
     let one : c.turns.left ≡ suc (c.turns.left - 1) = omega (arith, c.turns-test.true) in
     let none : c.in_ok-close.field-0 ≡ None = grind (arith, common_steps) in
-    let goes : GoesOn (turn_of draw p c.turns.row.cases) c.turns.recorder c.turn.new.recorder c.turns.row c.turn.new.row now new =
-    subst (λ (o : Option Close). TurnedTo (turn_of draw p c.turns.row.cases) c.turns.recorder c.turn.new.recorder c.turns.row c.turn.new.row now new o) none
-    (subst (λ (d : ℕ). TurnedTo (turn_of (draw_of d) p c.turns.row.cases) c.turns.recorder c.turn.new.recorder c.turns.row c.turn.new.row now new c.in_ok-close.field-0) (ap g.D.DrawSource.seed i.draws) k.turned) in
+    let goes : CompletesOnce (turn_of draw p c.turns.row.cases) c.turns.recorder c.turn.new.recorder c.turns.row c.turn.new.row now new =
+    subst (λ (o : Option Close). TakesTurn (turn_of draw p c.turns.row.cases) c.turns.recorder c.turn.new.recorder c.turns.row c.turn.new.row now new o) none
+    (subst (λ (d : ℕ). TakesTurn (turn_of (draw_of d) p c.turns.row.cases) c.turns.recorder c.turn.new.recorder c.turns.row c.turn.new.row now new c.in_ok-close.field-0) (ap g.D.DrawSource.seed i.draws) k.turned) in
     let room = room_after (turn_of draw p c.turns.row.cases) c.turns.recorder c.turn.new.recorder c.turns.row c.turn.new.row now new goes in
     let numbers = below c.turns.left c.turns.row.cases i.numbers c.turns-test.true in
     record {

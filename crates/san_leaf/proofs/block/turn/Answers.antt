@@ -7,7 +7,7 @@ use Rattle.san_net.specs.declared.atomic.Atomic.{Atomic}
 use Rattle.san_net.proofs.FirstLemmas.{accepted_below}
 use Rattle.san_expr.specs.Meets.{Evaluates}
 use Rattle.san_leaf.specs.Blocks.{done_of, turn_of}
-use Rattle.san_leaf.specs.inner.Turns.{TurnedTo}
+use Rattle.san_leaf.specs.inner.Turns.{TakesTurn}
 use Rattle.san_leaf.specs.inner.ViewStates.{view_state_of}
 use Rattle.san_leaf.proofs.FoundLemmas.{enabled_within, trapped_within}
 use Rattle.san_leaf.proofs.TurnLemmas.{fails_test, found_turns, rests}
@@ -50,6 +50,6 @@ returns-in-Enabled-clause-turned g c =
     let new = view_state_of c.complete_next.new.view in
     let draw = draw_of (g.D.DrawSource.seed c.args.draws.now) in
     let first : Evaluates old mid (first_of p.atomic) (Ok c.first_found.result) = subst (λ (a : Atomic). Evaluates old mid (first_of a) (Ok c.first_found.result)) c.get.ensures c.first_found.ensures.first in
-    IfOk-weaker c.complete_next.result (TurnedTo (done_of draw p c.in-Enabled.act c.args.row.now.cases) c.args.recorder.now c.complete_next.new.recorder c.args.row.now c.complete_next.new.row mid new)
-    (TurnedTo (turn_of draw p c.args.row.now.cases) c.args.recorder.now c.complete_next.new.recorder c.args.row.now c.complete_next.new.row old new)
+    IfOk-weaker c.complete_next.result (TakesTurn (done_of draw p c.in-Enabled.act c.args.row.now.cases) c.args.recorder.now c.complete_next.new.recorder c.args.row.now c.complete_next.new.row mid new)
+    (TakesTurn (turn_of draw p c.args.row.now.cases) c.args.recorder.now c.complete_next.new.recorder c.args.row.now c.complete_next.new.row old new)
     (λ o turned. found_turns draw p c.args.recorder.now c.args.row.now old mid c.first_found.result first c.in-Enabled.act c.complete_next.new.recorder c.complete_next.new.row new o c.in-Enabled.is turned) c.complete_next.ensures.turned

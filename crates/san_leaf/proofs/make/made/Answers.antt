@@ -15,7 +15,7 @@ use Rattle.san_draw.specs.Key.{draw_of}
 use Rattle.san_leaf.specs.Claimed.{IsReadFrom}
 use Rattle.san_leaf.specs.inner.Ends.{nothing_recorded, piece_of_cells, row_by}
 use Rattle.san_leaf.specs.Pieces.{PieceValue}
-use Rattle.san_leaf.specs.inner.Turns.{IsMade}
+use Rattle.san_leaf.specs.inner.Turns.{MakesRecorded}
 use Rattle.san_leaf.specs.inner.ViewStates.{Seeing, view_state_of}
 use Rattle.san_leaf.proofs.ViewLemmas.{all_kept}
 use Rattle.san_leaf.proofs.MadeLemmas.{has_read, is_sound}
@@ -42,8 +42,8 @@ gathered-requires g c =
     let row : Row = c.base.inside.row in
     let row_is : row ≡ claim.base.row = ap (λ (s : LeafState). s.row) (c.base.view_is ∙ c.get-base.ensures) in
     let wide = sym (length-map v.slots.now place_of) ∙ ap (λ (s : Seeing). length s.places) c.cells.view_is in
-    let made = subst (λ (p : Part). IsMade (made_of (draw_of claim.seed) p c.args.fired row.cases) nothing_recorded c.in-Ok.work.recorder (row_by c.args.fired row) c.in-Ok.work.row (view_state_of s0) (view_state_of s1) c.in-Ok.work.close) part
-    (subst (λ (d : ℕ). IsMade (made_of (draw_of d) c.get-part.result.now c.args.fired row.cases) nothing_recorded c.in-Ok.work.recorder (row_by c.args.fired row) c.in-Ok.work.row (view_state_of s0) (view_state_of s1) c.in-Ok.work.close) c.requires.seed c.in-Ok.ensures.worked) in
+    let made = subst (λ (p : Part). MakesRecorded (made_of (draw_of claim.seed) p c.args.fired row.cases) nothing_recorded c.in-Ok.work.recorder (row_by c.args.fired row) c.in-Ok.work.row (view_state_of s0) (view_state_of s1) c.in-Ok.work.close) part
+    (subst (λ (d : ℕ). MakesRecorded (made_of (draw_of d) c.get-part.result.now c.args.fired row.cases) nothing_recorded c.in-Ok.work.recorder (row_by c.args.fired row) c.in-Ok.work.row (view_state_of s0) (view_state_of s1) c.in-Ok.work.close) c.requires.seed c.in-Ok.ensures.worked) in
     record {
       sound = is_sound (claimed claim) c.as_slice.result.now (g.V.View.marking c.args.view) (g.V.View.kept c.args.view) row c.in-Ok.work.row c.in-Ok.work.recorder c.in-Ok.work.close s0 s1 c.args.own c.args.first v.own v.first
           fits.accepted slots refl c.requires.own c.requires.first row_is (sym (ap (λ (s : Seeing). s.own) c.cells.view_is)) (sym (ap (λ (s : Seeing). s.first) c.cells.view_is)) (c.cells.invariant.own ∙ wide) (c.cells.invariant.first ∙ wide) c.in-Ok.ensures.places
@@ -64,8 +64,8 @@ returns-in-Ok-clause-read g c =
     let row : Row = c.base.inside.row in
     let row_is : row ≡ claim.base.row = ap (λ (s : LeafState). s.row) (c.base.view_is ∙ c.get-base.ensures) in
     let wide = sym (length-map v.slots.now place_of) ∙ ap (λ (s : Seeing). length s.places) c.cells.view_is in
-    let made = subst (λ (p : Part). IsMade (made_of (draw_of claim.seed) p c.args.fired row.cases) nothing_recorded c.in-Ok.work.recorder (row_by c.args.fired row) c.in-Ok.work.row (view_state_of s0) (view_state_of s1) c.in-Ok.work.close) part
-    (subst (λ (d : ℕ). IsMade (made_of (draw_of d) c.get-part.result.now c.args.fired row.cases) nothing_recorded c.in-Ok.work.recorder (row_by c.args.fired row) c.in-Ok.work.row (view_state_of s0) (view_state_of s1) c.in-Ok.work.close) c.requires.seed c.in-Ok.ensures.worked) in
+    let made = subst (λ (p : Part). MakesRecorded (made_of (draw_of claim.seed) p c.args.fired row.cases) nothing_recorded c.in-Ok.work.recorder (row_by c.args.fired row) c.in-Ok.work.row (view_state_of s0) (view_state_of s1) c.in-Ok.work.close) part
+    (subst (λ (d : ℕ). MakesRecorded (made_of (draw_of d) c.get-part.result.now c.args.fired row.cases) nothing_recorded c.in-Ok.work.recorder (row_by c.args.fired row) c.in-Ok.work.row (view_state_of s0) (view_state_of s1) c.in-Ok.work.close) c.requires.seed c.in-Ok.ensures.worked) in
     let read = has_read (claimed claim) c.as_slice.result.now (g.V.View.marking c.args.view) (g.V.View.kept c.args.view) row c.in-Ok.work.row c.in-Ok.work.recorder c.in-Ok.work.close s0 s1 c.args.own c.args.first v.own v.first
     fits.accepted slots refl c.requires.own c.requires.first row_is (sym (ap (λ (s : Seeing). s.own) c.cells.view_is)) (sym (ap (λ (s : Seeing). s.first) c.cells.view_is)) (c.cells.invariant.own ∙ wide) (c.cells.invariant.first ∙ wide) c.in-Ok.ensures.places
     c.args.fired c.requires.kind fits.base.values made in

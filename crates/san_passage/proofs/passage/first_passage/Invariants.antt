@@ -1,14 +1,14 @@
 use Rattle.std.proofs.Common.{ℕ, List, ◌≡◌}
 use Rattle.san_law.specs.State.{State}
 use Rattle.san_law.specs.Step as law
-use Rattle.san_probe.specs.inner.Progress.{Stands}
+use Rattle.san_probe.specs.inner.Progress.{ProbeStands}
 use Rattle.san_seq.specs.FlatRun.{steps_left}
 use Rattle.san_passage.specs.Passages.{passage_from, passage_of}
 use Rattle.san_passage.proofs.passage.first_passage.Given as goal
 
 abbrev pub invariant-steps : goal.invariant-steps
 invariant-steps g l =
-    ((es : List law.Event) × (s : State) × (now : ℕ) × Stands l.flat l.seed l.fn.limits es s l.seq now)
+    ((es : List law.Event) × (s : State) × (now : ℕ) × ProbeStands l.flat l.seed l.fn.limits es s l.seq now)
     × (passage_from (g.M.Condition.holds l.until.0) l.seq ≡ passage_of l.flat l.seed l.fn.limits (g.M.Condition.holds l.until.0))
 
 abbrev pub decreases-steps : goal.decreases-steps
