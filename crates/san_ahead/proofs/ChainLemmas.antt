@@ -9,6 +9,7 @@ use Rattle.san_log.specs.Logs.{Entry}
 use Rattle.san_book.specs.Lines.{AreWrites, Line, agrees, each, line_of, seen_at, withdraw}
 use Rattle.san_decide.specs.Booked.{of_piece}
 use Rattle.san_ahead.specs.Aheads.{line_in}
+use Rattle.san_book.proofs.Each.{length_each}
 
 module _ (pieces : List (ℕ × PieceValue)) (k : ℕ) (x : ℕ × PieceValue) (here : k < length pieces) (is : x ≡ slice_index_or pieces k x) where
   -- a piece writes what fits
@@ -34,13 +35,8 @@ module _ (pieces : List (ℕ × PieceValue)) (k : ℕ) (x : ℕ × PieceValue) (
       ∙ ap (λ (y : ℕ × PieceValue). cond (is_current of_piece lines leaf y) (suc (current of_piece lines leaf (drop (k + 1) pieces))) 0) (sym is)
       ∙ ap (λ (t : Bool). cond t (suc (current of_piece lines leaf (drop (k + 1) pieces))) 0) e
 
--- the lines are as many
-each_same : (f : ℕ → ℕ → Line → Line) (ws : List (ℕ × ℕ)) (lines : List Line) → length (each f ws lines) ≡ length lines
-each_same f [] lines = refl
-each_same f (w ∷ ws) lines = each_same f ws (slice_set lines w.0 (f w.0 w.1 (line_of lines w.0))) ∙ length-set lines w.0 (f w.0 w.1 (line_of lines w.0))
-
 pub each_long : (old new : List LineValue) (f : ℕ → ℕ → Line → Line) (ws : List (ℕ × ℕ)) → map line_in new ≡ each f ws (map line_in old) → length old ≡ length new
-each_long old new f ws e = sym (length-map old line_in) ∙ sym (each_same f ws (map line_in old)) ∙ ap length (sym e) ∙ length-map new line_in
+each_long old new f ws e = sym (length-map old line_in) ∙ sym (length_each f ws (map line_in old)) ∙ ap length (sym e) ∙ length-map new line_in
 
 -- a stamp by its time and by what it sees
 pub stamped : (lines : List Line) (log : List Entry) (leaf pos t time : ℕ) (b all : Bool) → t ≡ time → b ≡ all

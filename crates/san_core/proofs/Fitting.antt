@@ -29,7 +29,9 @@ use Rattle.san_net.specs.declared.atomic.ImpulseTerm.{ImpulseTerm}
 use Rattle.san_net.specs.declared.part.Part.{Part}
 use Rattle.san_core.proofs.Clocking.{Listed, RowFits, blank_fits, listed, row_later}
 use Rattle.san_core.proofs.Opening.{acts_at, parts_of}
-use Rattle.san_core.proofs.Running.{Safe, gather_small, part_is, renewed_row_fits, run_safe}
+use Rattle.san_core.proofs.Running.{Safe, part_is, renewed_row_fits, run_safe}
+use Rattle.san_law.proofs.Renewals.{bare_timers}
+use Rattle.san_net.proofs.SmallLemmas.{gather_small}
 
 -- the least timer is one that stands
 record IsTimer (a : ℕ) (ts : List (Option Timer)) (x : ℕ × ℕ) : Type 0 where
@@ -90,7 +92,6 @@ bare_none (None ∷ ts) zero t h is = absurd cc
 bare_none (None ∷ ts) (suc k) t h is = bare_none ts k t h is
 bare_none (Some u ∷ ts) k t h is = absurd (true≢false (sym h))
 
-bare_timers : (r : Row) → is_bare r ≡ true → no_timers r.timers ≡ true
 unfolding is_bare
 bare_timers r e = e
 

@@ -41,21 +41,13 @@ use Rattle.san_core.specs.inner.CanTake.{CanTake}
 use Rattle.san_core.specs.inner.Suits.{Suits}
 use Rattle.san_core.proofs.Bounding.{networks_are_bounded}
 use Rattle.san_core.proofs.Suiting.{needed_suits}
-
-get_map : (ps : List Part) (j : ℕ) (p : Part) → slice_get ps j ≡ Some p → slice_get (map net.leaf_of ps) j ≡ Some (net.leaf_of p)
-get_map [] j p e = cc
-get_map (q ∷ ps) zero p e = ap map_some e
-  where
-    map_some : Option Part → Option leaf.Part
-    map_some None = None
-    map_some (Some x) = Some (net.leaf_of x)
-get_map (q ∷ ps) (suc j) p e = get_map ps j p e
+use Rattle.san_net.proofs.PartLemmas.{leaf_there}
 
 -- a sound piece that has read such values is the law's
 pub piece_is : (n : Network) (limits : Limits) (j : ℕ) (p : PieceValue) (shared : List ℕ) → IsSound p → slice_get n.parts j ≡ Some p.part → AgreesWith p.log shared
     → piece_of (net_of n (draw_of p.seed) limits) j (kind_in p.part.first.0 p.kind) p.time p.base shared ≡ p.outcome
 piece_is n limits j p shared sound part agrees =
-    piece_is_alone (network_in n) (draw_of p.seed) limits (record { horizon = 0; burst = 0; events = 0 }) j (net.leaf_of p.part) (get_map n.parts j p.part part) (kind_in p.part.first.0 p.kind) p.time p.base shared
+    piece_is_alone (network_in n) (draw_of p.seed) limits (record { horizon = 0; burst = 0; events = 0 }) j (net.leaf_of p.part) (leaf_there n.parts j p.part part) (kind_in p.part.first.0 p.kind) p.time p.base shared
     ∙ sound.makes shared agrees
 
 abbrev with_events : Core → List Event → Core

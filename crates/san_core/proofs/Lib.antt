@@ -10,8 +10,6 @@ pub mod Takes
 pub mod TakePieces
 pub mod Following
 pub mod Opening
-pub mod Holders
-pub mod Initial
 pub mod Fitting
 pub mod Needs
 pub mod Making

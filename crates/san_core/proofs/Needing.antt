@@ -20,12 +20,7 @@ use Rattle.san_core.specs.declared.admission.Taking.{Taking}
 use Rattle.san_core.specs.inner.Needed.{IsNeed, NeedBy, NumbersFrom, need_given}
 use Rattle.san_core.proofs.Needs.{GivenIs, NeedIs, given_is}
 use Rattle.san_core.proofs.TakePieces.{first_at}
-
--- a leaf that is there has a part
-part_at : (parts : List Part) (j : ℕ) → j < length parts → (p : Part) × (slice_get parts j ≡ Some p)
-part_at [] j l = absurd (omega (arith, l))
-part_at (p ∷ parts) zero l = (p, refl)
-part_at (p ∷ parts) (suc j) l = part_at parts j (omega (arith, l))
+use Rattle.san_net.proofs.PartLemmas.{part_there}
 
 -- a machine goes on, and this is its order's answer
 pub record Goes (m : MachineValue) (answer : turn.Need) : Type 0 where
@@ -97,7 +92,7 @@ module _ (m : MachineValue) (run : FollowsRun m) where
   is_need : (t : Taking) (k : law.Kind) → h.stop ≡ None → need_here ≡ Needs t.leaf.0 k t.time.0 → k ≡ kind_in t.first.0 t.kind → NumbersFrom t.first.0 t.kind
       → ((p : Part) → slice_get m.network.parts t.leaf.0 ≡ Some p → p.first ≡ t.first) → t.leaf.0 < length m.network.parts → IsNeed m t
   is_need t k going need same numbers first within =
-      let at = part_at m.network.parts t.leaf.0 within in
+      let at = part_there m.network.parts t.leaf.0 within in
       record {
         going = going;
         need = need ∙ ap (λ (x : law.Kind). Needs t.leaf.0 x t.time.0) same;
@@ -127,7 +122,7 @@ module _ (m : MachineValue) (run : FollowsRun m) where
 
   first_same : (t : Taking) (leaf : LeafId) → t.leaf ≡ leaf → HasFirst t → t.leaf.0 < length m.network.parts → slice_index m.held.firsts leaf.0 ≡ t.first.0
   first_same t leaf l first within =
-      let at = part_at m.network.parts t.leaf.0 within in
+      let at = part_there m.network.parts t.leaf.0 within in
       ap (λ (xs : List ℕ). slice_index xs leaf.0) run.belongs.firsts
       ∙ (ap (λ (x : LeafId). slice_index (map (λ (q : Part). q.first.0) m.network.parts) x.0) (sym l)
       ∙ (first_at m.network.parts t.leaf.0 at.0 at.1 ∙ ap (λ (x : ActId). x.0) (first at.0 at.1)))

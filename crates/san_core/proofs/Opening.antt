@@ -33,10 +33,8 @@ use Rattle.san_reward.proofs.Sameness.{opened_of}
 use Rattle.san_turn.specs.Changes as turn
 use Rattle.san_core.specs.Committed.{StartsRun}
 use Rattle.san_core.specs.inner.Held.{committed_by}
-
-activities_long : (terms : List ImpulseTerm) (k : ℕ) (acts : List Named) → length (activities_from terms k acts) ≡ length acts
-activities_long terms k [] = refl
-activities_long terms k (a ∷ acts) = ap suc (activities_long terms (suc k) acts)
+use Rattle.san_net.proofs.LaidLemmas.{place_in}
+use Rattle.san_net.proofs.PartLemmas.{activities_long}
 
 abbrev acts_or : Option Part → ℕ
 acts_or None = 0
@@ -47,10 +45,6 @@ acts_at [] j p is = absurd cc
 acts_at (q ∷ parts) zero p is = activities_long q.atomic.impulses 0 q.atomic.acts ∙ ap acts_or is
 acts_at (q ∷ parts) (suc j) p is = acts_at parts j p is
 
-pub same_place : (s : code.Slot) → law.place_of (slot_in s) ≡ place_of s
-same_place (slot.Private place) = refl
-same_place (slot.Shared place) = refl
-
 -- a leaf's places have the values that its atomic gives
 valued : (ss : List code.Slot) (vs m : List ℕ) → length ss ≡ length vs → ((i place : ℕ) → slice_get (map place_of ss) i ≡ Some place → slice_get m place ≡ slice_get vs i) → gather (map law.place_of (map slot_in ss)) m ≡ vs
 valued [] [] m l h = refl
@@ -58,7 +52,7 @@ valued [] (v ∷ vs) m l h = absurd (omega (arith, l))
 valued (s ∷ ss) [] m l h = absurd (omega (arith, l))
 valued (s ∷ ss) (v ∷ vs) m l h =
     let head : slice_index m (place_of s) ≡ v = get_or_from_slice_get m (place_of s) v 0 (h 0 (place_of s) refl) in
-    ap (λ (q : ℕ). slice_index m q ∷ gather (map law.place_of (map slot_in ss)) m) (same_place s)
+    ap (λ (q : ℕ). slice_index m q ∷ gather (map law.place_of (map slot_in ss)) m) (place_in s)
     ∙ (ap (λ (x : ℕ). x ∷ gather (map law.place_of (map slot_in ss)) m) head
     ∙ ap (λ (xs : List ℕ). v ∷ xs) (valued ss vs m (omega (arith, l)) (λ i place is. h (suc i) place is)))
 

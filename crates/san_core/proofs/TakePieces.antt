@@ -39,7 +39,8 @@ use Rattle.san_core.specs.inner.Suits.{Suits}
 use Rattle.san_core.proofs.Passes.{admits_passed}
 use Rattle.san_core.proofs.Suiting.{all_of, of_none}
 use Rattle.san_core.proofs.Takes as takes
-use Rattle.san_core.proofs.Takes.{Whole, completions_long, put_is, stop_is, taken_is}
+use Rattle.san_core.proofs.Takes.{Whole, put_is, stop_is, taken_is}
+use Rattle.san_leaf.proofs.RecordLemmas.{completions_long}
 
 all_append : {X : Type 0} (P : X → Type 0) (xs ys : List X) → All P xs → All P ys → All P (xs ++ ys)
 all_append P [] ys a b k d l = b k d l

@@ -28,6 +28,7 @@ use Rattle.san_core.specs.inner.Impulses.{impulses_from}
 use Rattle.san_core.specs.inner.Steps.{counted_by, halted, put_in, with_counts}
 use Rattle.san_core.proofs.Counting.{impulses_kept, tally_is}
 use Rattle.san_core.proofs.Passes.{admitted_by, admitted_is}
+use Rattle.san_leaf.proofs.RecordLemmas.{completions_long}
 
 -- the core that is taken whole, by the kind
 abbrev pub whole : Net → Core → ℕ → ℕ → law.Kind → law.Outcome → List Event → Core
@@ -39,10 +40,6 @@ taken_by : (net : Net) (c : Core) (j time : ℕ) (kind : law.Kind) (o : law.Outc
 taken_by net c j time law.Settle o = refl
 taken_by net c j time (law.Fire k) o = refl
 taken_by net c j time law.Refresh o = refl
-
-pub completions_long : (i : ℕ) (acts : List (ℕ × ℕ)) (xs : List Rattle.san_leaf.specs.declared.recorder.Impulse.Impulse) → length (completions_from i acts xs) ≡ length acts
-completions_long i [] xs = refl
-completions_long i (a ∷ acts) xs = ap suc (completions_long (i + 1) acts xs)
 
 module _ (net : Net) (n : Network) (v : CommittedValue) (belongs : Belongs net n v) (leaf : LeafId) (first : ActId) (time : Tick) (o : Outcome) where
   abbrev pub t : Kind → Taking

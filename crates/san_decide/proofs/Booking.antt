@@ -46,6 +46,8 @@ use Rattle.san_book.proofs.Replaying.{every_run}
 use Rattle.san_book.proofs.Subject.{events_more, leaves_long, list_is, list_itself, not_stopped, piece_fits, shared_long, state_is, state_itself, there, unwritten, value_of}
 use Rattle.san_decide.specs.Booked.{BookIsLawful, EveryCoreFollows, book_of, entry_of, made_from, named_in, needed_from, no_part, of_piece, part_at, piece_from, same_read}
 use Rattle.san_decide.proofs.Pieces.{reads_decide}
+use Rattle.san_law.proofs.Rest.{none_more}
+use Rattle.san_net.proofs.PartLemmas.{leaf_there}
 
 -- logs, as pairs and as entries
 pairs_back : (xs : List (ℕ × ℕ)) → map pair_in (map entry_of xs) ≡ xs
@@ -109,9 +111,6 @@ reads_found (Shared r ∷ ss) (v ∷ vs) looks k m d f = by_look (looks k) f (λ
       again (λ q h w e. f q (inr h) w (ap (λ (b : Bool). found_by b v (find q (map entry_of (reads_from looks (suc k) ss vs)))) (apart r ss q d.0 h) ∙ e)),
     )
 
-none_more : (q : ℕ) → 0 + q ≡ q
-none_more q = omega arith
-
 -- so do those of the log itself
 reads_tell : (n : ℕ) (others : ℕ → Type 0) (ss : List Slot) (vs : List ℕ) (looks : ℕ → Bool) (k : ℕ) → AllApart n others ss → AreDistinct (map place_of ss)
     → AgreesWith (reads_from looks k ss vs) (values_from 0 n (map entry_of (reads_from looks k ss vs)))
@@ -139,15 +138,6 @@ slots_at : (ps : List Part) (j : ℕ) → slice_index_or (map (λ p. p.slots) (m
 slots_at [] j = refl
 slots_at (p ∷ ps) zero = refl
 slots_at (p ∷ ps) (suc j) = slots_at ps j
-
-get_leaf : (ps : List Part) (j : ℕ) (p : Part) → slice_get ps j ≡ Some p → slice_get (map net.leaf_of ps) j ≡ Some (net.leaf_of p)
-get_leaf [] j p e = cc
-get_leaf (q ∷ ps) zero p e = ap leaf_or e
-  where
-    leaf_or : Option Part → Option Rattle.san_law.specs.Activity.Part
-    leaf_or None = None
-    leaf_or (Some x) = Some (net.leaf_of x)
-get_leaf (q ∷ ps) (suc j) p e = get_leaf ps j p e
 
 -- a leaf that isn't there reads nothing
 nothing_read : (seed : ℕ) (kind : Kind) (base : LeafState) (shared other : List ℕ) → reads_in no_part seed kind base shared ≡ reads_in no_part seed kind base other
@@ -189,7 +179,7 @@ module _ (n : Network) (network : IsNetwork n) (seed : ℕ) (limits : Limits) wh
       there_alike e =
           let alike = reads_decide (part_at n j) (network.accepted j (part_at n j) e) seed kind time base shared other agree in
           let any : Bounds = record { horizon = 0; burst = 0; events = 0 } in
-          let own = piece_is_alone (network_in n) (draw_of seed) (limits_in limits) any j (net.leaf_of (part_at n j)) (get_leaf n.parts j (part_at n j) e) kind time base in
+          let own = piece_is_alone (network_in n) (draw_of seed) (limits_in limits) any j (net.leaf_of (part_at n j)) (leaf_there n.parts j (part_at n j) e) kind time base in
           (alike.reads, own other ∙ alike.makes ∙ sym (own shared))
 
       none_alike : part_at n j ≡ no_part → Alike j base kind time shared other

@@ -10,6 +10,7 @@ use Rattle.san_expr.specs.Meaning.{Evaluation, Meaning, settled, value_at, put_a
 use Rattle.san_net.specs.First.{attempt}
 use Rattle.san_leaf.specs.Blocks.{back_by, or_back}
 use Rattle.san_decide.specs.Decided.{Decides, HaveOneAnswer}
+use Rattle.san_expr.proofs.ConcernLemmas.{length-slice_set, set_other}
 
 no_truth : {A : Type 0} → false ≡ true → A
 no_truth e = cc
@@ -28,24 +29,12 @@ decides_value_at p = record {
   sized = λ m. refl;
 }
 
-set_long : (m : List ℕ) (p v : ℕ) → length (slice_set m p v) ≡ length m
-set_long [] p v = refl
-set_long (x ∷ m) zero v = refl
-set_long (x ∷ m) (suc p) v = ap suc (set_long m p v)
-
 set_same : (m n : List ℕ) (p v : ℕ) → length m ≡ length n → slice_index (slice_set m p v) p ≡ slice_index (slice_set n p v) p
 set_same [] [] p v e = refl
 set_same [] (y ∷ n) p v e = absurd (omega (arith, e))
 set_same (x ∷ m) [] p v e = absurd (omega (arith, e))
 set_same (x ∷ m) (y ∷ n) zero v e = refl
 set_same (x ∷ m) (y ∷ n) (suc p) v e = set_same m n p v (omega (arith, e))
-
-set_other : (m : List ℕ) (p v q : ℕ) → (q ≡ p → ⊥) → slice_index (slice_set m p v) q ≡ slice_index m q
-set_other [] p v q apart = refl
-set_other (x ∷ m) zero v zero apart = absurd (apart refl)
-set_other (x ∷ m) zero v (suc q) apart = refl
-set_other (x ∷ m) (suc p) v zero apart = refl
-set_other (x ∷ m) (suc p) v (suc q) apart = set_other m p v q (λ e. apart (ap suc e))
 
 pub decides_put_at : (p v : ℕ) → Decides (put_at p v)
 decides_put_at p v = record {
@@ -56,7 +45,7 @@ decides_put_at p v = record {
     assigned = λ q h. subst (λ (k : ℕ). slice_index (slice_set m p v) k ≡ slice_index (slice_set n p v) k) (sym (same_number q p h)) (set_same m n p v e.sized);
   };
   unset = λ m q h. set_other m p v q (λ e. no_truth (sym h ∙ eq-eqb q p e));
-  sized = λ m. set_long m p v;
+  sized = λ m. length-slice_set m p v;
 }
 
 or_left : (a b : Bool) → a ≡ true → (a || b) ≡ true

@@ -16,9 +16,7 @@ use Rattle.san_expr.specs.Value.{value_step, value_of, rest_of, is_decided, trut
 use Rattle.san_expr.specs.Effect.{Acts, assign_at, in_turn, chosen, effect_step, effect_of, effects_of}
 use Rattle.san_decide.specs.Decided.{Decides}
 use Rattle.san_decide.proofs.Composing.{decides_put_at, decides_settled, decides_then, decides_value_at}
-
-decides_as : {T : Type 0} (a b : Meaning T) → a ≡ b → Decides b → Decides a
-decides_as a b e h = subst (λ (m : Meaning _). Decides m) (sym e) h
+use Rattle.san_expr.proofs.Unrolling.{HeldExpr, HeldStmt, IsEffectKept, IsValueKept, every_effect, every_value}
 
 decides_rest : (op : Op) (right : Meaning ℤ) (x : ℤ) → Decides right → Decides (rest_of op right x)
 decides_rest op right x r = by_test (is_decided op x)
@@ -28,11 +26,8 @@ decides_rest op right x r = by_test (is_decided op x)
     by_test false = decides_then right (λ y. settled (applied op x y)) r (λ y. decides_settled (applied op x y))
 
 -- expressions
-abbrev IsDecided : Expr → Type 0
-IsDecided e = Decides (value_of e)
-
 abbrev Held : Type 0
-Held = (e : Expr) × IsDecided e
+Held = HeldExpr (IsValueKept Decides)
 
 one_level : (y : Expr-F Held) → Decides (value_step (map-Expr Held (Meaning ℤ) (λ h. value_of h.0) y))
 one_level (Expr-F.Number n) = decides_settled (Ok n)
@@ -44,22 +39,8 @@ one_level (Expr-F.Neg a) = decides_then (value_of a.0) _ a.1 (λ x. decides_sett
 one_level (Expr-F.Not a) = decides_then (value_of a.0) _ a.1 (λ x. decides_settled _)
 one_level (Expr-F.Binary op left right) = decides_then (value_of left.0) (rest_of op (value_of right.0)) left.1 (λ x. decides_rest op (value_of right.0) x right.1)
 
-value_map : (y : Expr-F Held) → map-Expr Expr (Meaning ℤ) value_of (map-Expr Held Expr (λ h. h.0) y) ≡ map-Expr Held (Meaning ℤ) (λ h. value_of h.0) y
-value_map (Expr-F.Number n) = refl
-value_map (Expr-F.Place p) = refl
-value_map (Expr-F.Cell first length index) = refl
-value_map (Expr-F.Neg a) = refl
-value_map (Expr-F.Not a) = refl
-value_map (Expr-F.Binary op left right) = refl
-
-level : (x : Expr-F Expr) (y : Expr-F Held) → map-Expr Held Expr (λ h. h.0) y ≡ x → IsDecided (roll-Expr x)
-level x y e = subst (λ (z : Expr-F Expr). IsDecided (roll-Expr z)) e
-    (decides_as (value_of (roll-Expr (map-Expr Held Expr (λ h. h.0) y))) (value_step (map-Expr Held (Meaning ℤ) (λ h. value_of h.0) y))
-    (fold-roll-Expr (Meaning ℤ) value_step (map-Expr Held Expr (λ h. h.0) y) ∙ ap value_step (value_map y))
-    (one_level y))
-
 pub value_decides : (e : Expr) → Decides (value_of e)
-value_decides = ind-Expr IsDecided level
+value_decides = every_value Decides one_level
 
 -- statements
 pub decides_assign : (p : ℕ) (x : ℤ) → Decides (assign_at p x)
@@ -70,49 +51,28 @@ decides_assign p (pos n) = by_test (nat_le n MAX_TOKENS)
     by_test true = decides_put_at p n
     by_test false = decides_settled (Err Marking)
 
-abbrev AreDecided : Stmt → Type 0
-AreDecided s = Decides (effect_of s)
-
-abbrev HeldStmt : Type 0
-HeldStmt = (s : Stmt) × AreDecided s
+abbrev HeldOne : Type 0
+HeldOne = HeldStmt (IsEffectKept Decides)
 
 pub turns_decide : {X : Type 0} (acts : X → Acts) → ((x : X) → Decides (acts x)) → (xs : List X) → Decides (in_turn (map acts xs))
 turns_decide acts each [] = decides_settled (Ok tt)
 turns_decide acts each (x ∷ xs) = decides_then (acts x) (λ _. in_turn (map acts xs)) (each x) (λ _. turns_decide acts each xs)
 
-one_stmt : (y : Stmt-F HeldStmt) → Decides (effect_step (map-Stmt HeldStmt Acts (λ h. effect_of h.0) y))
+one_stmt : (y : Stmt-F HeldOne) → Decides (effect_step (map-Stmt HeldOne Acts (λ h. effect_of h.0) y))
 one_stmt (Stmt-F.Set p e) = decides_then (value_of e) (assign_at p) (value_decides e) (decides_assign p)
 one_stmt (Stmt-F.SetCell first length index e) =
     decides_then (value_of index) (λ x. then_do (settled (cell_of first length x)) (λ p. then_do (value_of e) (assign_at p))) (value_decides index)
     (λ x. decides_then (settled (cell_of first length x)) (λ p. then_do (value_of e) (assign_at p)) (decides_settled (cell_of first length x))
     (λ p. decides_then (value_of e) (assign_at p) (value_decides e) (decides_assign p)))
 one_stmt (Stmt-F.If e xs ys) =
-    let acts = in_turn (map (λ (h : HeldStmt). effect_of h.0) xs) in
-    let others = in_turn (map (λ (h : HeldStmt). effect_of h.0) ys) in
+    let acts = in_turn (map (λ (h : HeldOne). effect_of h.0) xs) in
+    let others = in_turn (map (λ (h : HeldOne). effect_of h.0) ys) in
     decides_then (value_of e) (chosen acts others) (value_decides e)
-    (λ x. by_test acts others (turns_decide (λ (h : HeldStmt). effect_of h.0) (λ h. h.1) xs) (turns_decide (λ (h : HeldStmt). effect_of h.0) (λ h. h.1) ys) (is_zero x))
+    (λ x. by_test acts others (turns_decide (λ (h : HeldOne). effect_of h.0) (λ h. h.1) xs) (turns_decide (λ (h : HeldOne). effect_of h.0) (λ h. h.1) ys) (is_zero x))
   where
     by_test : (acts others : Acts) → Decides acts → Decides others → (b : Bool) → Decides (cond b others acts)
     by_test acts others p q true = q
     by_test acts others p q false = p
 
-map_map : {A B C : Type 0} (f : A → B) (g : B → C) (xs : List A) → map g (map f xs) ≡ map (λ x. g (f x)) xs
-map_map f g [] = refl
-map_map f g (x ∷ xs) = ap (λ (ys : List _). g (f x) ∷ ys) (map_map f g xs)
-
-effect_map : (y : Stmt-F HeldStmt) → map-Stmt Stmt Acts effect_of (map-Stmt HeldStmt Stmt (λ h. h.0) y) ≡ map-Stmt HeldStmt Acts (λ h. effect_of h.0) y
-effect_map (Stmt-F.Set p e) = refl
-effect_map (Stmt-F.SetCell first length index e) = refl
-effect_map (Stmt-F.If e xs ys) = λ i. Stmt-F.If e (map_map (λ (h : HeldStmt). h.0) effect_of xs i) (map_map (λ (h : HeldStmt). h.0) effect_of ys i)
-
-stmt_level : (x : Stmt-F Stmt) (y : Stmt-F HeldStmt) → map-Stmt HeldStmt Stmt (λ h. h.0) y ≡ x → AreDecided (roll-Stmt x)
-stmt_level x y e = subst (λ (z : Stmt-F Stmt). AreDecided (roll-Stmt z)) e
-    (decides_as (effect_of (roll-Stmt (map-Stmt HeldStmt Stmt (λ h. h.0) y))) (effect_step (map-Stmt HeldStmt Acts (λ h. effect_of h.0) y))
-    (fold-roll-Stmt Acts effect_step (map-Stmt HeldStmt Stmt (λ h. h.0) y) ∙ ap effect_step (effect_map y))
-    (one_stmt y))
-
-stmt_decides : (s : Stmt) → AreDecided s
-stmt_decides = ind-Stmt AreDecided stmt_level
-
 pub effects_decide : (body : List Stmt) → Decides (effects_of body)
-effects_decide body = turns_decide effect_of stmt_decides body
+effects_decide body = turns_decide effect_of (every_effect Decides one_stmt) body

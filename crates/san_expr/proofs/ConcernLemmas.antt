@@ -9,6 +9,7 @@ use Rattle.san_base.specs.declared.limits.TheConstants.{MAX_TOKENS}
 use Rattle.san_base.specs.declared.op.Op.{Op}
 use Rattle.san_base.specs.declared.ending.Trap.{Trap}
 use Rattle.san_base.specs.declared.ending.Trap.TheVariants.{Marking, Index}
+use Rattle.san_expr.proofs.Unrolling.{HeldExpr, HeldStmt, effect_is, map_map, value_is}
 use Rattle.san_expr.specs.declared.expr.Expr.{Expr}
 use Rattle.san_expr.specs.declared.expr.Expr.TheOpen.{Expr-F}
 use Rattle.san_expr.specs.declared.expr.Expr.TheViews.{roll-Expr}
@@ -45,7 +46,7 @@ not_cell q p h e = by_test (eqb_tells q p)
     by_test (inl t) = cc
     by_test (inr t) = t.1 e
 
-length-slice_set : (m : List ℕ) (p v : ℕ) → length (slice_set m p v) ≡ length m
+pub length-slice_set : (m : List ℕ) (p v : ℕ) → length (slice_set m p v) ≡ length m
 length-slice_set [] p v = refl
 length-slice_set (x ∷ m) zero v = refl
 length-slice_set (x ∷ m) (suc p) v = ap suc (length-slice_set m p v)
@@ -59,7 +60,7 @@ set_both (x ∷ m) (y ∷ n) zero v (suc q) e h = h
 set_both (x ∷ m) (y ∷ n) (suc p) v zero e h = h
 set_both (x ∷ m) (y ∷ n) (suc p) v (suc q) e h = set_both m n p v q (omega arith) h
 
-set_other : (m : List ℕ) (p v q : ℕ) → (q ≡ p → ⊥) → slice_index (slice_set m p v) q ≡ slice_index m q
+pub set_other : (m : List ℕ) (p v q : ℕ) → (q ≡ p → ⊥) → slice_index (slice_set m p v) q ≡ slice_index m q
 set_other [] p v q apart = refl
 set_other (x ∷ m) zero v zero apart = absurd (apart refl)
 set_other (x ∷ m) zero v (suc q) apart = refl
@@ -229,7 +230,7 @@ abbrev IsConcerned : Expr → Type 0
 IsConcerned e = (cells : CellSet) → IsPartOf (mentions e) cells → Concerns cells (value_of e)
 
 abbrev Held : Type 0
-Held = (e : Expr) × IsConcerned e
+Held = HeldExpr IsConcerned
 
 one_level : (y : Expr-F Held) (cells : CellSet) → IsPartOf (mentions_step (map-Expr Held CellSet (λ h. mentions h.0) y)) cells
     → Concerns cells (value_step (map-Expr Held (Meaning ℤ) (λ h. value_of h.0) y))
@@ -246,14 +247,6 @@ one_level (Expr-F.Binary op left right) cells part =
     (left.1 cells (λ q h. part q (holds_left (mentions left.0 q) (mentions right.0 q) h)))
     (λ x. concerns_rest cells op (value_of right.0) x (right.1 cells (λ q h. part q (holds_right (mentions left.0 q) (mentions right.0 q) h))))
 
-value_map : (y : Expr-F Held) → map-Expr Expr (Meaning ℤ) value_of (map-Expr Held Expr (λ h. h.0) y) ≡ map-Expr Held (Meaning ℤ) (λ h. value_of h.0) y
-value_map (Expr-F.Number n) = refl
-value_map (Expr-F.Place p) = refl
-value_map (Expr-F.Cell first length index) = refl
-value_map (Expr-F.Neg a) = refl
-value_map (Expr-F.Not a) = refl
-value_map (Expr-F.Binary op left right) = refl
-
 mentions_map : (y : Expr-F Held) → map-Expr Expr CellSet mentions (map-Expr Held Expr (λ h. h.0) y) ≡ map-Expr Held CellSet (λ h. mentions h.0) y
 mentions_map (Expr-F.Number n) = refl
 mentions_map (Expr-F.Place p) = refl
@@ -265,7 +258,7 @@ mentions_map (Expr-F.Binary op left right) = refl
 level : (x : Expr-F Expr) (y : Expr-F Held) → map-Expr Held Expr (λ h. h.0) y ≡ x → IsConcerned (roll-Expr x)
 level x y e = subst (λ (z : Expr-F Expr). IsConcerned (roll-Expr z)) e (λ cells part.
     concerns_as cells (value_of (roll-Expr (map-Expr Held Expr (λ h. h.0) y))) (value_step (map-Expr Held (Meaning ℤ) (λ h. value_of h.0) y))
-    (fold-roll-Expr (Meaning ℤ) value_step (map-Expr Held Expr (λ h. h.0) y) ∙ ap value_step (value_map y))
+    (value_is IsConcerned y)
     (one_level y cells (λ q h. part q
     (subst (λ (c : CellSet). IsTrue (c q)) (sym (fold-roll-Expr CellSet mentions_step (map-Expr Held Expr (λ h. h.0) y) ∙ ap mentions_step (mentions_map y))) h))))
 
@@ -279,18 +272,18 @@ value_concerns e = concerned e (mentions e) (λ p h. h)
 abbrev AreConcerned : Stmt → Type 0
 AreConcerned s = (cells : CellSet) → IsPartOf (stmt_mentions s) cells → Concerns cells (effect_of s)
 
-abbrev HeldStmt : Type 0
-HeldStmt = (s : Stmt) × AreConcerned s
+abbrev HeldOne : Type 0
+HeldOne = HeldStmt AreConcerned
 
-concerns_list : (hs : List HeldStmt) (cells : CellSet) → IsPartOf (any_of (map (λ h. stmt_mentions h.0) hs)) cells → Concerns cells (in_turn (map (λ h. effect_of h.0) hs))
+concerns_list : (hs : List HeldOne) (cells : CellSet) → IsPartOf (any_of (map (λ h. stmt_mentions h.0) hs)) cells → Concerns cells (in_turn (map (λ h. effect_of h.0) hs))
 concerns_list [] cells part = concerns_settled cells (Ok tt)
 concerns_list (h ∷ hs) cells part =
     concerns_then cells (effect_of h.0) (λ _. in_turn (map (λ k. effect_of k.0) hs))
     (h.1 cells (λ q t. part q (holds_left (stmt_mentions h.0 q) (any_of (map (λ k. stmt_mentions k.0) hs) q) t)))
     (λ _. concerns_list hs cells (λ q t. part q (holds_right (stmt_mentions h.0 q) (any_of (map (λ k. stmt_mentions k.0) hs) q) t)))
 
-one_stmt : (y : Stmt-F HeldStmt) (cells : CellSet) → IsPartOf (stmt_mentions_step (map-Stmt HeldStmt CellSet (λ h. stmt_mentions h.0) y)) cells
-    → Concerns cells (effect_step (map-Stmt HeldStmt Acts (λ h. effect_of h.0) y))
+one_stmt : (y : Stmt-F HeldOne) (cells : CellSet) → IsPartOf (stmt_mentions_step (map-Stmt HeldOne CellSet (λ h. stmt_mentions h.0) y)) cells
+    → Concerns cells (effect_step (map-Stmt HeldOne Acts (λ h. effect_of h.0) y))
 one_stmt (Stmt-F.Set p e) cells part =
     concerns_then cells (value_of e) (assign_at p) (concerned e cells (λ q h. part q (holds_right (nat_eq q p) (mentions e q) h)))
     (λ x. concerns_assign cells p x (part p (holds_left (nat_eq p p) (mentions e p) (number_itself p))))
@@ -303,10 +296,10 @@ one_stmt (Stmt-F.SetCell first length index e) cells part =
     (concerned e cells (λ q h. part q (holds_right (array_cells first length q) (mentions index q || mentions e q) (holds_right (mentions index q) (mentions e q) h))))
     (λ y. concerns_assign cells p y within)))
 one_stmt (Stmt-F.If e xs ys) cells part =
-    let thens = any_of (map (λ (h : HeldStmt). stmt_mentions h.0) xs) in
-    let elses = any_of (map (λ (h : HeldStmt). stmt_mentions h.0) ys) in
-    let acts = in_turn (map (λ (h : HeldStmt). effect_of h.0) xs) in
-    let others = in_turn (map (λ (h : HeldStmt). effect_of h.0) ys) in
+    let thens = any_of (map (λ (h : HeldOne). stmt_mentions h.0) xs) in
+    let elses = any_of (map (λ (h : HeldOne). stmt_mentions h.0) ys) in
+    let acts = in_turn (map (λ (h : HeldOne). effect_of h.0) xs) in
+    let others = in_turn (map (λ (h : HeldOne). effect_of h.0) ys) in
     concerns_then cells (value_of e) (chosen acts others)
     (concerned e cells (λ q h. part q (holds_left (mentions e q) (thens q || elses q) h)))
     (λ x. by_test acts others
@@ -318,26 +311,17 @@ one_stmt (Stmt-F.If e xs ys) cells part =
     by_test acts others p q true = q
     by_test acts others p q false = p
 
-map_map : {A B C : Type 0} (f : A → B) (g : B → C) (xs : List A) → map g (map f xs) ≡ map (λ x. g (f x)) xs
-map_map f g [] = refl
-map_map f g (x ∷ xs) = ap (λ (ys : List _). g (f x) ∷ ys) (map_map f g xs)
-
-effect_map : (y : Stmt-F HeldStmt) → map-Stmt Stmt Acts effect_of (map-Stmt HeldStmt Stmt (λ h. h.0) y) ≡ map-Stmt HeldStmt Acts (λ h. effect_of h.0) y
-effect_map (Stmt-F.Set p e) = refl
-effect_map (Stmt-F.SetCell first length index e) = refl
-effect_map (Stmt-F.If e xs ys) = λ i. Stmt-F.If e (map_map (λ (h : HeldStmt). h.0) effect_of xs i) (map_map (λ (h : HeldStmt). h.0) effect_of ys i)
-
-stmt_mentions_map : (y : Stmt-F HeldStmt) → map-Stmt Stmt CellSet stmt_mentions (map-Stmt HeldStmt Stmt (λ h. h.0) y) ≡ map-Stmt HeldStmt CellSet (λ h. stmt_mentions h.0) y
+stmt_mentions_map : (y : Stmt-F HeldOne) → map-Stmt Stmt CellSet stmt_mentions (map-Stmt HeldOne Stmt (λ h. h.0) y) ≡ map-Stmt HeldOne CellSet (λ h. stmt_mentions h.0) y
 stmt_mentions_map (Stmt-F.Set p e) = refl
 stmt_mentions_map (Stmt-F.SetCell first length index e) = refl
-stmt_mentions_map (Stmt-F.If e xs ys) = λ i. Stmt-F.If e (map_map (λ (h : HeldStmt). h.0) stmt_mentions xs i) (map_map (λ (h : HeldStmt). h.0) stmt_mentions ys i)
+stmt_mentions_map (Stmt-F.If e xs ys) = λ i. Stmt-F.If e (map_map (λ (h : HeldOne). h.0) stmt_mentions xs i) (map_map (λ (h : HeldOne). h.0) stmt_mentions ys i)
 
-stmt_level : (x : Stmt-F Stmt) (y : Stmt-F HeldStmt) → map-Stmt HeldStmt Stmt (λ h. h.0) y ≡ x → AreConcerned (roll-Stmt x)
+stmt_level : (x : Stmt-F Stmt) (y : Stmt-F HeldOne) → map-Stmt HeldOne Stmt (λ h. h.0) y ≡ x → AreConcerned (roll-Stmt x)
 stmt_level x y e = subst (λ (z : Stmt-F Stmt). AreConcerned (roll-Stmt z)) e (λ cells part.
-    concerns_as cells (effect_of (roll-Stmt (map-Stmt HeldStmt Stmt (λ h. h.0) y))) (effect_step (map-Stmt HeldStmt Acts (λ h. effect_of h.0) y))
-    (fold-roll-Stmt Acts effect_step (map-Stmt HeldStmt Stmt (λ h. h.0) y) ∙ ap effect_step (effect_map y))
+    concerns_as cells (effect_of (roll-Stmt (map-Stmt HeldOne Stmt (λ h. h.0) y))) (effect_step (map-Stmt HeldOne Acts (λ h. effect_of h.0) y))
+    (effect_is AreConcerned y)
     (one_stmt y cells (λ q h. part q
-    (subst (λ (c : CellSet). IsTrue (c q)) (sym (fold-roll-Stmt CellSet stmt_mentions_step (map-Stmt HeldStmt Stmt (λ h. h.0) y) ∙ ap stmt_mentions_step (stmt_mentions_map y))) h))))
+    (subst (λ (c : CellSet). IsTrue (c q)) (sym (fold-roll-Stmt CellSet stmt_mentions_step (map-Stmt HeldOne Stmt (λ h. h.0) y) ∙ ap stmt_mentions_step (stmt_mentions_map y))) h))))
 
 stmt_concerned : (s : Stmt) → AreConcerned s
 stmt_concerned = ind-Stmt AreConcerned stmt_level

@@ -4,3 +4,4 @@ pub mod ComposeLemmas
 pub mod EvalLemmas
 pub mod StatementLemmas
 pub mod WholeLemmas
+pub mod Unrolling

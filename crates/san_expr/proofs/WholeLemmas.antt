@@ -4,8 +4,7 @@ use Rattle.san_base.specs.declared.op.Op.{Op}
 use Rattle.san_base.specs.declared.ending.Trap.{Trap}
 use Rattle.san_expr.specs.declared.expr.Expr.{Expr}
 use Rattle.san_expr.specs.declared.expr.Expr.TheOpen.{Expr-F}
-use Rattle.san_expr.specs.declared.expr.Expr.TheViews.{roll-Expr}
-use Rattle.san_expr.specs.declared.expr.Expr.TheFolds.{fold-roll-Expr, map-Expr, ind-Expr}
+use Rattle.san_expr.specs.declared.expr.Expr.TheFolds.{map-Expr}
 use Rattle.san_expr.specs.declared.dist.Dist.{Dist}
 use Rattle.san_expr.specs.declared.dist.Dist.TheVariants.{Det, Uniform, Geom, Table}
 use Rattle.san_expr.specs.Concerns.{AssignsNothing}
@@ -14,6 +13,7 @@ use Rattle.san_expr.specs.Meaning.{Meaning, settled, value_at, go_on, then_do}
 use Rattle.san_expr.specs.Meets.{Meets, Evaluates, marking_of}
 use Rattle.san_expr.specs.Value.{value_step, value_of, rest_of, is_decided, truth, is_zero, applied, cell_of, fitting}
 use Rattle.san_expr.specs.View.{ViewState, Agrees, OwnsAll, plain}
+use Rattle.san_expr.proofs.Unrolling.{HeldExpr, IsValueKept, every_value}
 use Rattle.san_expr.proofs.ViewLemmas.{over_whole}
 
 module _ {T U : Type 0} (a : Meaning T) (next : T → Meaning U) (first : AssignsNothing a) (rest : (x : T) → AssignsNothing (next x)) where
@@ -39,13 +39,7 @@ nothing_rest op right x r = by_test (is_decided op x)
     by_test true = nothing_settled (Ok (truth (not (is_zero x))))
     by_test false = nothing_then right (λ y. settled (applied op x y)) r (λ y. nothing_settled (applied op x y))
 
-abbrev Reads : Expr → Type 0
-Reads e = AssignsNothing (value_of e)
-
-abbrev Held : Type 0
-Held = (e : Expr) × Reads e
-
-one_level : (y : Expr-F Held) → AssignsNothing (value_step (map-Expr Held (Meaning ℤ) (λ h. value_of h.0) y))
+one_level : (y : Expr-F (HeldExpr (IsValueKept AssignsNothing))) → AssignsNothing (value_step (map-Expr (HeldExpr (IsValueKept AssignsNothing)) (Meaning ℤ) (λ h. value_of h.0) y))
 one_level (Expr-F.Number n) = nothing_settled (Ok n)
 one_level (Expr-F.Place p) = nothing_value_at p
 one_level (Expr-F.Cell first count index) =
@@ -55,20 +49,8 @@ one_level (Expr-F.Neg a) = nothing_then (value_of a.0) (λ x. settled (fitting (
 one_level (Expr-F.Not a) = nothing_then (value_of a.0) (λ x. settled (Ok (truth (is_zero x)))) a.1 (λ x. nothing_settled (Ok (truth (is_zero x))))
 one_level (Expr-F.Binary op left right) = nothing_then (value_of left.0) (rest_of op (value_of right.0)) left.1 (λ x. nothing_rest op (value_of right.0) x right.1)
 
-value_map : (y : Expr-F Held) → map-Expr Expr (Meaning ℤ) value_of (map-Expr Held Expr (λ h. h.0) y) ≡ map-Expr Held (Meaning ℤ) (λ h. value_of h.0) y
-value_map (Expr-F.Number n) = refl
-value_map (Expr-F.Place p) = refl
-value_map (Expr-F.Cell first count index) = refl
-value_map (Expr-F.Neg a) = refl
-value_map (Expr-F.Not a) = refl
-value_map (Expr-F.Binary op left right) = refl
-
-level : (x : Expr-F Expr) (y : Expr-F Held) → map-Expr Held Expr (λ h. h.0) y ≡ x → Reads (roll-Expr x)
-level x y e = subst (λ (z : Expr-F Expr). Reads (roll-Expr z)) e
-    (subst (λ (a : Meaning ℤ). AssignsNothing a) (sym (fold-roll-Expr (Meaning ℤ) value_step (map-Expr Held Expr (λ h. h.0) y) ∙ ap value_step (value_map y))) (one_level y))
-
 pub value_reads : (e : Expr) → AssignsNothing (value_of e)
-value_reads = ind-Expr Reads level
+value_reads = every_value AssignsNothing one_level
 
 pub delay_reads : (d : Dist) (u : ℕ) → AssignsNothing (delay_of d u)
 delay_reads (Det e) u m = nothing_then (value_of e) (λ x. settled (ticks_of x)) (value_reads e) (λ x. nothing_settled (ticks_of x)) m

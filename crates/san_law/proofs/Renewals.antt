@@ -324,7 +324,7 @@ done_keeps : (r : Row) (k : ℕ) (a : Activity) (o : Result Effected Trap) → A
 done_keeps r k a (Err trap) = tt
 done_keeps r k a (Ok e) = (e, refl, record { values = refl; sets = refl; timers = refl; impulses = refl })
 
-bare_timers : (r : Row) → is_bare r ≡ true → no_timers r.timers ≡ true
+pub bare_timers : (r : Row) → is_bare r ≡ true → no_timers r.timers ≡ true
 unfolding is_bare
 bare_timers r e = e
 

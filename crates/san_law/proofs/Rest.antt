@@ -9,7 +9,7 @@ use Rattle.san_law.specs.Starts.{AfterMore, MorePieces, NoMorePieces, RestOfPiec
 use Rattle.san_law.proofs.Pieces.{pieces_are_needed}
 use Rattle.san_law.proofs.Standing.{pieces_keep}
 
-none_more : (k : ℕ) → 0 + k ≡ k
+pub none_more : (k : ℕ) → 0 + k ≡ k
 none_more k = omega arith
 
 one_more : (m k : ℕ) → suc m + k ≡ suc (m + k)

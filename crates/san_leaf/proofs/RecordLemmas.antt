@@ -78,7 +78,7 @@ recorded_with_event es is e h =
 pub impulse_recorded : (es : List (ℕ × ℕ)) (is : List Impulse) (x : Impulse) → AreWellRecorded es is → x.event ≡ length es → AreWellRecorded es (is ++ x ∷ [])
 impulse_recorded es is x h e = record { few = h.few; acts = h.acts; early = All-append (λ y. y.event ≤ length es) is (x ∷ []) h.early (All-cons (λ y. y.event ≤ length es) x [] (omega (arith, e)) (All-nil (λ y. y.event ≤ length es))) }
 
-completions_long : (i : ℕ) (es : List (ℕ × ℕ)) (is : List Impulse) → length (completions_from i es is) ≡ length es
+pub completions_long : (i : ℕ) (es : List (ℕ × ℕ)) (is : List Impulse) → length (completions_from i es is) ≡ length es
 completions_long i [] is = refl
 completions_long i (e ∷ es) is = ap suc (completions_long (i + 1) es is)
 

@@ -24,3 +24,6 @@ pub mod ReaderLemmas
 pub mod CellLemmas
 pub mod ShareLemmas
 pub mod PartLemmas
+pub mod HolderLemmas
+pub mod InitialLemmas
+pub mod SmallLemmas

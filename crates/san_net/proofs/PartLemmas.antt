@@ -1,5 +1,5 @@
 -- A network's leaf by number: as the law sees it, and over a marking.
-use Rattle.std.proofs.Common.{ℕ, ◌≡◌, ◌<◌, ◌∙◌, ap, sym, refl, subst, List, [], ◌∷◌, length, map, Some, arith}
+use Rattle.std.proofs.Common.{ℕ, zero, suc, ◌≡◌, ◌<◌, ◌∙◌, ap, sym, refl, subst, List, [], ◌∷◌, length, map, Option, Some, None, arith}
 use Rattle.std.specs.Prelude.{slice_get}
 use Rattle.std.proofs.lemmas.List.{get_or-map, length-map}
 use Rattle.std.proofs.lemmas.Option.{get_or_from_slice_get, slice_get_within}
@@ -8,12 +8,35 @@ use Rattle.san_law.specs.Lawful.{AllBelow, AreDistinct, IsLaid}
 use Rattle.san_law.specs.Network as law
 use Rattle.san_law.specs.State.{place_of as law_place, slots_of}
 use Rattle.san_net.specs.Laid.{place_of, places_of}
-use Rattle.san_net.specs.Leaf.{leaf_of, slot_in}
+use Rattle.san_net.specs.Leaf.{leaf_of, slot_in, activities_from}
 use Rattle.san_net.specs.Network.{Network, net_of, network_in}
 use Rattle.san_net.specs.declared.part.Part.{Part}
 use Rattle.san_net.specs.declared.part.Slot.{Slot}
 use Rattle.san_net.specs.declared.part.Slot.TheVariants.{Private, Shared}
 use Rattle.san_net.specs.Cells.{LiesOver}
+use Rattle.san_net.specs.Instants.{Named}
+use Rattle.san_net.specs.declared.atomic.ImpulseTerm.{ImpulseTerm}
+
+-- a leaf that is there has a part
+pub part_there : (parts : List Part) (j : ℕ) → j < length parts → (p : Part) × (slice_get parts j ≡ Some p)
+part_there [] j l = absurd (omega (arith, l))
+part_there (p ∷ parts) zero l = (p, refl)
+part_there (p ∷ parts) (suc j) l = part_there parts j (omega (arith, l))
+
+-- and so has the law's network
+pub leaf_there : (parts : List Part) (j : ℕ) (p : Part) → slice_get parts j ≡ Some p → slice_get (map leaf_of parts) j ≡ Some (leaf_of p)
+leaf_there [] j p e = cc
+leaf_there (q ∷ parts) zero p e = ap leaf_or e
+  where
+    leaf_or : Option Part → Option leaf.Part
+    leaf_or None = None
+    leaf_or (Some x) = Some (leaf_of x)
+leaf_there (q ∷ parts) (suc j) p e = leaf_there parts j p e
+
+-- the law's activities of a part are as many
+pub activities_long : (terms : List ImpulseTerm) (k : ℕ) (acts : List Named) → length (activities_from terms k acts) ≡ length acts
+activities_long terms k [] = refl
+activities_long terms k (a ∷ acts) = ap suc (activities_long terms (suc k) acts)
 
 slots_in : (ss : List Slot) → map law_place (map slot_in ss) ≡ map place_of ss
 slots_in [] = refl

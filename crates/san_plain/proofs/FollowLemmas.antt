@@ -11,9 +11,10 @@ use Rattle.san_net.specs.declared.part.Part.{Part}
 use Rattle.san_reward.specs.Running.{Running, rates_in, rates_of, with_all_rates}
 use Rattle.san_reward.proofs.RatesSet.{rates_there}
 use Rattle.san_plain.specs.inner.Rates.{AreNew, DiffersIn, FollowsRates, FollowsPlaces, differs_at, rates_at}
-use Rattle.san_plain.proofs.RateLemmas.{new_stays, part_at, same_of}
+use Rattle.san_plain.proofs.RateLemmas.{new_stays, same_of}
 use Rattle.san_net.proofs.CellLemmas.{CaughtUp}
 use Rattle.san_expr.specs.Mentions.{CellSet}
+use Rattle.san_net.proofs.PartLemmas.{part_there}
 use Rattle.san_plain.specs.inner.Rated.{rate_cells}
 use Rattle.san_plain.proofs.RatedLemmas.{HaveSameOn, rates_same}
 
@@ -81,7 +82,7 @@ module _ (n : Network) (before m : List ℕ) (t v : Running) (rates : t.tally.ra
   pub all_rates : v ≡ with_all_rates t (rates_in n m)
   all_rates = f.kept ∙ ap (with_all_rates t) (ext_get_or [] v.tally.rates (rates_in n m) (long ∙ sym (length-map n.parts (rates_of m))) (λ i l.
       let h : i < length n.parts = let many = long in omega (arith, l, many) in
-      let got = part_at n.parts i h in
+      let got = part_there n.parts i h in
       row_is i got.0 h got.1 ∙ rates_there n i got.0 got.1 h m))
 
 -- a leaf that may have changed, and its places

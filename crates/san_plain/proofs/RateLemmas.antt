@@ -26,12 +26,6 @@ use Rattle.san_plain.proofs.RatedLemmas.{rated_there}
 pub same_of : {X : Type 0} (o : Option X) (x y : X) → o ≡ Some x → o ≡ Some y → x ≡ y
 same_of o x y a b = cc
 
--- a part for each number
-pub part_at : (parts : List Part) (i : ℕ) → i < length parts → (p : Part) × (slice_get parts i ≡ Some p)
-part_at [] i h = absurd (omega (arith, h))
-part_at (p ∷ parts) zero h = (p, refl)
-part_at (p ∷ parts) (suc i) h = part_at parts i (omega (arith, h))
-
 -- the place of a private slot
 pub private_place : (shared : ℕ) (slot : Slot) (place : PlaceId) → slot ≡ Private place → IsTagged shared slot → shared ≤ place_of slot
 private_place shared slot place is tagged = subst (λ (s : Slot). IsTagged shared s → shared ≤ place_of s) (sym is) (λ h. h) tagged

@@ -1,5 +1,3 @@
-pub mod HolderLemmas
-pub mod OpeningLemmas
 pub mod ProgressLemmas
 pub mod SmallLemmas
 pub mod TurnLemmas

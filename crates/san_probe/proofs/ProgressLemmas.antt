@@ -24,7 +24,7 @@ use Rattle.san_probe.specs.inner.Progress.{ProbeStands, Watches, net_by, run_at,
 use Rattle.san_probe.specs.Watching.{sum_values, value_at, watched_by, watched_in, watched_of}
 use Rattle.san_probe.specs.inner.Progress.{ticks_before}
 use Rattle.san_probe.specs.declared.measured.Watched.{Watched}
-use Rattle.san_probe.proofs.OpeningLemmas.{initial_small}
+use Rattle.san_net.proofs.InitialLemmas.{initial_small}
 use Rattle.san_probe.proofs.SmallLemmas.{networks_small, step_small}
 use Rattle.san_probe.proofs.WatchLemmas.{watched_more}
 use Rattle.san_seq.specs.FlatRun.{On, Run, after_step, step_of, opening}

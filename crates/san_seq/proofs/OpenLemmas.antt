@@ -16,8 +16,7 @@ use Rattle.san_seq.specs.inner.Openings.{rows_of}
 use Rattle.san_net.specs.Runs.{limits_in}
 use Rattle.san_seq.specs.inner.Rows.{IsRowOf, row_at}
 use Rattle.san_seq.specs.inner.Running.{IsRunning}
-use Rattle.san_net.proofs.PartLemmas.{part_is}
-use Rattle.san_seq.proofs.RangeLemmas.{all_numbered}
+use Rattle.san_net.proofs.PartLemmas.{part_is, activities_long}
 
 blanks_from : (any : net.Net) (ps : List Part) (j : ℕ) → ((i : ℕ) (p : Part) → slice_get ps i ≡ Some p → any.acts (j + i) ≡ length p.atomic.acts)
     → blank_rows any j (map (λ (q : leaf.Part). q.slots) (map leaf_of ps)) ≡ rows_of ps
@@ -28,7 +27,7 @@ blanks_from any (p ∷ ps) j acts =
     ∙ ap (λ (rs : List net.Row). blank_row (length p.atomic.acts) ∷ rs) (blanks_from any ps (suc j) (λ i q is. ap any.acts (omega arith) ∙ acts (suc i) q is))
 
 acts_at : (n : Network) (draw : ℕ → ℕ → ℕ) (bounds : Bounds) (i : ℕ) (p : Part) → slice_get n.parts i ≡ Some p → (net_of n draw bounds).acts i ≡ length p.atomic.acts
-acts_at n draw bounds i p is = ap (λ (q : leaf.Part). length q.activities) (part_is n i p is) ∙ all_numbered p.atomic.impulses 0 p.atomic.acts
+acts_at n draw bounds i p is = ap (λ (q : leaf.Part). length q.activities) (part_is n i p is) ∙ activities_long p.atomic.impulses 0 p.atomic.acts
 
 pub rows_are : (n : Network) (draw : ℕ → ℕ → ℕ) (bounds : Bounds) → rows_of n.parts ≡ (opening_state (net_of n draw bounds)).rows
 rows_are n draw bounds = sym (blanks_from (net_of n draw bounds) n.parts 0 (λ i p is. ap (net_of n draw bounds).acts (omega arith) ∙ acts_at n draw bounds i p is))

@@ -17,7 +17,7 @@ use Rattle.san_seq.specs.inner.Rows.{AreRows, row_at}
 use Rattle.san_net.specs.Tables.{IsActOf}
 use Rattle.san_clock.proofs.DueLemmas.{least_within}
 use Rattle.san_seq.proofs.NextLemmas.{cut}
-use Rattle.san_net.proofs.PartLemmas.{part_is}
+use Rattle.san_net.proofs.PartLemmas.{part_is, activities_long}
 use Rattle.san_net.proofs.FlatLemmas.{acts_within}
 
 -- the activity that is found, be it enabled or broken
@@ -157,10 +157,6 @@ due_is rows d is =
     let same : a.at ≡ d.leaf = omega (arith, a.leaf) in
     subst (λ (j : ℕ). least_timer (row_at rows j) ≡ Some (d.time, d.act)) same a.is
 
-pub all_numbered : (terms : List ImpulseTerm) (k : ℕ) (acts : List Named) → length (activities_from terms k acts) ≡ length acts
-all_numbered terms k [] = refl
-all_numbered terms k (a ∷ acts) = ap suc (all_numbered terms (suc k) acts)
-
 -- an activity of the net is one of the network
 pub act_is_of : (n : Network) (draw : ℕ → ℕ → ℕ) (bounds : Bounds) (j k : ℕ) → j < length (net_of n draw bounds).parts → k < (net_of n draw bounds).acts j → IsActOf n j k
 act_is_of n draw bounds j k leaf act =
@@ -168,7 +164,7 @@ act_is_of n draw bounds j k leaf act =
     record {
       leaf = omega (arith, leaf, long);
       act = λ p at.
-          let acts : length (part_at (network_in n) j).activities ≡ length p.atomic.acts = ap (λ (q : Part). length q.activities) (part_is n j p at) ∙ all_numbered p.atomic.impulses 0 p.atomic.acts in
+          let acts : length (part_at (network_in n) j).activities ≡ length p.atomic.acts = ap (λ (q : Part). length q.activities) (part_is n j p at) ∙ activities_long p.atomic.impulses 0 p.atomic.acts in
           omega (arith, act, acts);
     }
 

@@ -11,7 +11,7 @@ use Rattle.san_net.specs.Laid.{IsNetwork}
 use Rattle.san_net.specs.Network.{Network}
 use Rattle.san_net.specs.Tables.{importers_of}
 use Rattle.san_net.proofs.TableLemmas.{got_at}
-use Rattle.san_core.proofs.Holders.{Has, has_some, imported_some}
+use Rattle.san_net.proofs.HolderLemmas.{Has, has_some, imported_some}
 
 small_at : (xs : List ℕ) (i v : ℕ) → All (λ x. x ≤ MAX_TOKENS) xs → slice_get xs i ≡ Some v → v ≤ MAX_TOKENS
 small_at xs i v all is =
