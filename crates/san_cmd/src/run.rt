@@ -38,7 +38,7 @@ fn put_run<K: Sink>(run: Run<'_>, make: Option<Made>, sink: &mut K) -> Result<En
     }
 }
 
-/// RunsWords a network, and puts what is to be seen of the run.
+/// Runs a network, and puts what is to be seen of the run.
 fn run_network<K: Sink>(alloc: Global, flat: &Flat, orders: Orders, sink: &mut K) -> Served
     requires { IsInRange orders.limits }
     ensures answer { Ran (output_of orders.make (run_by flat.now orders)) (run_by flat.now orders)
@@ -80,7 +80,7 @@ impl Task for RunModel {
     }
 }
 
-/// RunsWords a generated model.
+/// Runs a generated model.
 fn run_made<K: Sink, N: Sink>(
     alloc: Global,
     orders: Orders,
@@ -102,7 +102,7 @@ fn run_made<K: Sink, N: Sink>(
     serve_text_noted(alloc, &RunModel { orders }, text.as_slice(), sink, notes)
 }
 
-/// RunsWords the model text that the source gives, or a generated one.
+/// Runs the model text that the source gives, or a generated one.
 fn run_ordered<S: Source, K: Sink, N: Sink>(
     alloc: Global,
     orders: Orders,
@@ -128,7 +128,7 @@ fn run_ordered<S: Source, K: Sink, N: Sink>(
     }
 }
 
-/// RunsWords what was heard of words.
+/// Runs what was heard of words.
 fn run_heard<S: Source, K: Sink, N: Sink>(
     alloc: Global,
     heard: Heard,
@@ -154,7 +154,7 @@ fn run_heard<S: Source, K: Sink, N: Sink>(
     }
 }
 
-/// RunsWords the model text that the source gives, as the words order it, in one thread, and puts its
+/// Runs the model text that the source gives, as the words order it, in one thread, and puts its
 /// report into the sink, and a line on what went wrong into the notes. Where the words say that the
 /// model is generated, nothing is read, and the report's summary is put. All memory of the run is
 /// taken before the first byte is put. A note that fails changes no status.
@@ -187,7 +187,7 @@ pub fn plain_words<S: Source, K: Sink, N: Sink>(
     run_heard(alloc, heard, source, sink, notes)
 }
 
-/// RunsWords the model text that the source gives, as the words of `sanrun` order it, and puts its report
+/// Runs the model text that the source gives, as the words of `sanrun` order it, and puts its report
 /// into the sink, and a line on what went wrong into the notes; a generated model as `plain_words`
 /// does. How far ahead the words order the run
 /// to be, and in how many threads, has no effect. A note that fails changes no status.
