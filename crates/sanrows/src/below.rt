@@ -1,9 +1,5 @@
 //! Calls of the libraries below the top, whose answers are lines.
 
-ghost use Rattle.std.specs.Prelude.{◌≤◌, length};
-ghost use Rattle.san_base.specs.declared.limits.TheConstants.{MAX_TEXT_BYTES};
-
-use crate::model::model_lines;
 use crate::network::network_lines;
 use crate::piece::piece_lines;
 use san_base::{MAX_TEXT_BYTES, NoMemory, Status};
@@ -20,25 +16,6 @@ fn lines(alloc: Global, name: &str, flat: &Flat, words: &str) -> Result<Option<V
 }
 
 /// The status and the lines of a call on the network of a text.
-fn call_on_network(
-    alloc: Global,
-    name: &str,
-    words: &str,
-    text: &[u8],
-) -> Result<(Status, Vec<u8>), NoMemory>
-    requires { length text.now ≤ MAX_TEXT_BYTES }
-{
-    match accept(alloc, text) {
-        Ok(accepted) => match lines(alloc, name, &accepted.flat, words)? {
-            Some(lines) => Ok((Status::Done, lines)),
-            None => Ok((Status::Words, Vec::new(alloc))),
-        },
-        Err(NotAccepted::Refused(_)) => Ok((Status::Refused, Vec::new(alloc))),
-        Err(NotAccepted::NoMemory) => Err(NoMemory),
-    }
-}
-
-/// The status and the lines of a call on a text.
 pub(crate) fn call_below(
     alloc: Global,
     name: &str,
@@ -48,11 +25,12 @@ pub(crate) fn call_below(
     if text.len() > MAX_TEXT_BYTES {
         return Ok((Status::Refused, Vec::new(alloc)));
     }
-    if name != "model" {
-        return call_on_network(alloc, name, words, text);
-    }
-    match model_lines(alloc, text)? {
-        Some(lines) => Ok((Status::Done, lines)),
-        None => Ok((Status::Refused, Vec::new(alloc))),
+    match accept(alloc, text) {
+        Ok(accepted) => match lines(alloc, name, &accepted.flat, words)? {
+            Some(lines) => Ok((Status::Done, lines)),
+            None => Ok((Status::Words, Vec::new(alloc))),
+        },
+        Err(NotAccepted::Refused(_)) => Ok((Status::Refused, Vec::new(alloc))),
+        Err(NotAccepted::NoMemory) => Err(NoMemory),
     }
 }

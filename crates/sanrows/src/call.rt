@@ -1,6 +1,7 @@
 //! A call of a row, the top ones over a source and sinks in memory, and what it left behind.
 
 use crate::below::call_below;
+use crate::order::run_by_pieces;
 use san_base::{MemSink, MemSource, NoMemory};
 use san_cmd::{Status, plain_words, run_words, show_words};
 use std::alloc::Global;
@@ -69,7 +70,10 @@ impl<'a> Call<'a> {
 
     /// Makes a call below the top on a text.
     fn run_below(&self, alloc: Global, text: &[u8]) -> Result<Ran, NoMemory> {
-        let (status, output) = call_below(alloc, self.name, self.words, text)?;
+        let (status, output) = match self.name {
+            "order" => run_by_pieces(alloc, self.all_words(alloc)?.as_slice(), text)?,
+            _ => call_below(alloc, self.name, self.words, text)?,
+        };
         Ok(Ran {
             status: status.code(),
             output,
@@ -106,7 +110,7 @@ impl<'a> Call<'a> {
     /// Makes the call on a text; none where there is no call of the name.
     pub(crate) fn run(&self, alloc: Global, text: &[u8]) -> Result<Option<Ran>, NoMemory> {
         match self.name {
-            "model" | "network" | "piece" => Ok(Some(self.run_below(alloc, text)?)),
+            "network" | "order" | "piece" => Ok(Some(self.run_below(alloc, text)?)),
             _ => self.run_top(alloc, text),
         }
     }
