@@ -1,0 +1,4 @@
+pub mod Batches
+pub mod Examples
+pub mod Summaries
+pub mod inner
