@@ -6,8 +6,6 @@ mod command;
 mod matches;
 mod options;
 mod orders;
-#[cfg(test)]
-mod tests;
 mod values;
 mod words;
 
