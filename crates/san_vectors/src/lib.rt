@@ -11,19 +11,13 @@ mod lines;
 #[cfg(test)]
 mod logs;
 #[cfg(test)]
-mod models;
-#[cfg(test)]
 mod network;
 #[cfg(test)]
 mod orders;
 #[cfg(test)]
 mod overlays;
 #[cfg(test)]
-mod positions;
-#[cfg(test)]
 mod probes;
-#[cfg(test)]
-mod reading;
 #[cfg(test)]
 mod rewards;
 #[cfg(test)]

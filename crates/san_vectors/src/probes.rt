@@ -2,47 +2,46 @@
 
 ghost use Rattle.std.specs.Prelude.{◌≡◌, ◌*◌, ◌<◌, ◌≤◌, ◌-ℤ◌, length, nat_eq, pos, slice_index};
 
-use crate::models::COUNTER;
-use crate::reading::network;
+use crate::network::put_and_get;
 use san_base::{Limits, NoMemory, Stop, Tick};
 use san_net::Flat;
 use san_probe::{Asking, Condition, Gauge, Measure, Reading, Until, Watched, watch};
 use std::alloc::Global;
 use std::test::Fail;
 
-/// The value of the second place.
+/// The value of the third place.
 #[derive(Clone, Copy)]
-struct Second;
+struct Third;
 
-impl Measure for Second {
-    ghost value = { λ measure m. pos (slice_index m 1) };
+impl Measure for Third {
+    ghost value = { λ measure m. pos (slice_index m 2) };
 }
 
-impl Reading for Second {
-    ghost accepts = { λ it m. 1 < length m };
+impl Reading for Third {
+    ghost accepts = { λ it m. 2 < length m };
 
-    ghost answers = { λ it m value. value ≡ pos (slice_index m 1) };
+    ghost answers = { λ it m value. value ≡ pos (slice_index m 2) };
 
     fn read(&self, marking: &[u32]) -> i64 {
-        i64::from(marking[1])
+        i64::from(marking[2])
     }
 }
 
-/// Ten, less twenty for each token of the second place.
+/// Ten, less twenty for each token of the third place.
 #[derive(Clone, Copy)]
 struct TenLess;
 
 impl Measure for TenLess {
-    ghost value = { λ measure m. pos 10 -ℤ pos (20 * slice_index m 1) };
+    ghost value = { λ measure m. pos 10 -ℤ pos (20 * slice_index m 2) };
 }
 
 impl Reading for TenLess {
-    ghost accepts = { λ it m. 1 < length m };
+    ghost accepts = { λ it m. 2 < length m };
 
-    ghost answers = { λ it m value. value ≡ pos 10 -ℤ pos (20 * slice_index m 1) };
+    ghost answers = { λ it m value. value ≡ pos 10 -ℤ pos (20 * slice_index m 2) };
 
     fn read(&self, marking: &[u32]) -> i64 {
-        10 - 20 * i64::from(marking[1])
+        10 - 20 * i64::from(marking[2])
     }
 }
 
@@ -92,16 +91,17 @@ fn watched<F: Reading, M: Measure>(
     Ok(Some(watch(alloc, flat, 7, limits, Tick(from), Tick(to), gauge)?))
 }
 
-/// Completions at 3, 6 and 9, each of which puts a token into the second place.
+/// From tick 2 on the third place has a token.
 #[test]
 fn sums_over_a_run(rt: HostRuntime) -> Result<(), Fail> {
-    let flat = network(rt.alloc(), COUNTER).expect(&rt, "network");
-    assert!(rt; flat.places() == 2);
-    let gauge = Gauge::new(Second, Second, 2);
+    let flat = put_and_get(rt.alloc())?;
+    assert!(rt; flat.places() == 3);
+    let gauge = Gauge::new(Third, Third, 3);
     for ((from, to), sum) in [
-        ((0, 10), 12),
-        ((3, 7), 5),
-        ((9, 11), 6),
+        ((0, 10), 8),
+        ((1, 4), 2),
+        ((2, 3), 1),
+        ((9, 11), 2),
         ((5, 5), 0),
         ((7, 3), 0),
         ((20, 4), 0),
@@ -112,30 +112,30 @@ fn sums_over_a_run(rt: HostRuntime) -> Result<(), Fail> {
     Ok(())
 }
 
-/// The values are 10 at tick 2, -10 at 3, 4 and 5, and -30 at 6 and 7.
+/// The values are 10 at tick 1, and -10 at 2, 3 and 4.
 #[test]
 fn sum_of_another_measure(rt: HostRuntime) -> Result<(), Fail> {
-    let flat = network(rt.alloc(), COUNTER).expect(&rt, "network");
-    assert!(rt; flat.places() == 2);
-    let gauge = Gauge::new(TenLess, TenLess, 2);
-    let watched = watched(rt.alloc(), &flat, 10, 1000, 2, 8, &gauge)?;
-    assert_eq!(rt; watched, Some(Watched::Sum(-80)));
+    let flat = put_and_get(rt.alloc())?;
+    assert!(rt; flat.places() == 3);
+    let gauge = Gauge::new(TenLess, TenLess, 3);
+    let watched = watched(rt.alloc(), &flat, 10, 1000, 1, 5, &gauge)?;
+    assert_eq!(rt; watched, Some(Watched::Sum(-20)));
     Ok(())
 }
 
-/// The third completion would pass the limit of events, at 9: there is no sum, wherever the
+/// The second completion would pass the limit of events, at 2: there is no sum, wherever the
 /// interval ends. A run up to its horizon has one as far as the horizon's tick.
 #[test]
 fn stopped_and_beyond(rt: HostRuntime) -> Result<(), Fail> {
-    let flat = network(rt.alloc(), COUNTER).expect(&rt, "network");
-    assert!(rt; flat.places() == 2);
-    let gauge = Gauge::new(Second, Second, 2);
-    for to in [3, 10, 12] {
-        let watched = watched(rt.alloc(), &flat, 10, 2, 0, to, &gauge)?;
-        assert_eq!(rt; watched, Some(Watched::Stopped(Stop::Events(Tick(9)))));
+    let flat = put_and_get(rt.alloc())?;
+    assert!(rt; flat.places() == 3);
+    let gauge = Gauge::new(Third, Third, 3);
+    for to in [1, 10, 12] {
+        let watched = watched(rt.alloc(), &flat, 10, 1, 0, to, &gauge)?;
+        assert_eq!(rt; watched, Some(Watched::Stopped(Stop::Events(Tick(2)))));
     }
     let whole = watched(rt.alloc(), &flat, 10, 1000, 0, 11, &gauge)?;
-    assert_eq!(rt; whole, Some(Watched::Sum(15)));
+    assert_eq!(rt; whole, Some(Watched::Sum(9)));
     let more = watched(rt.alloc(), &flat, 10, 1000, 0, 12, &gauge)?;
     assert_eq!(rt; more, Some(Watched::Beyond));
     Ok(())

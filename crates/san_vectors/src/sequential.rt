@@ -1,8 +1,6 @@
 //! A run taken whole, and one taken step by step with its markings; worked out by hand.
 
-use crate::models::TICK;
 use crate::network::put_and_get;
-use crate::reading::network;
 use san_base::{ActId, Ending, Event, Limits, NoMemory, Tick};
 use san_net::Flat;
 use san_seq::{Seq, Stepped};
@@ -48,10 +46,10 @@ fn opened(
 /// The events from the opening on, and the ending.
 #[test]
 fn whole_run(rt: HostRuntime) -> Result<(), Fail> {
-    let flat = network(rt.alloc(), TICK).ok_or("no network")?;
+    let flat = put_and_get(rt.alloc())?;
     let seq = opened(rt.alloc(), &flat, 7, 10, 1000, 1000)?.ok_or("limits")?;
     let trajectory = seq.run_all(rt.alloc())?;
-    let events = [event_of(3, 0, 0), event_of(6, 0, 0), event_of(9, 0, 0)];
+    let events = [event_of(2, 0, 0), event_of(2, 1, 0)];
     assert_eq!(rt; trajectory.events.as_slice(), events.as_slice());
     assert_eq!(rt; trajectory.ending, Ending::End(Tick(10)));
     Ok(())

@@ -1,38 +1,25 @@
-//! A top call over streams in memory that take no memory while they are used.
+//! Streams in memory that take no memory while they are used.
 
-use crate::models::COUNTER;
-use san_base::{NoMemory, Status, SureSink, SureSource};
-use san_cmd::plain_words;
-use std::alloc::Global;
+use san_base::{SureSink, SureSource, Taking, put_all, take_all};
 use std::test::Fail;
 
-const REPORT: &str =
-    "0 3 x.tick 0\n1 6 x.tick 0\n2 9 x.tick 0\nend 10 3\nreward r 27\nreward m 27/10\nreward i 2\n";
-
-fn words(alloc: Global) -> Result<Vec<String>, NoMemory> {
-    let mut words = Vec::new(alloc);
-    for word in ["--seed", "7", "--horizon", "10"] {
-        words.push(String::from_str(alloc, word)?)?;
-    }
-    Ok(words)
-}
-
-/// The report has 86 bytes, and the sink room for 100. Where memory is refused, nothing is written.
+/// All bytes are taken, and a sink with room for 8 holds 3 and then 5 of them, and no more.
 #[test]
 fn streams_without_faults(rt: HostRuntime) -> Result<(), Fail> {
     let alloc = rt.alloc();
-    let words = words(alloc)?;
-    let mut source = SureSource::new(Vec::from_slice(alloc, COUNTER.as_bytes())?);
-    let mut sink = SureSink::new(alloc, 100)?;
-    let mut notes = SureSink::new(alloc, 20)?;
-    let status = plain_words(alloc, words.as_slice(), &mut source, &mut sink, &mut notes);
-    if status == Status::NoMemory {
-        assert_eq!(rt; sink.room(), 100);
-        assert_eq!(rt; notes.bytes(), b"memory\n".as_slice());
-    } else {
-        assert_eq!(rt; status, Status::Done);
-        assert_eq!(rt; sink.bytes(), REPORT.as_bytes());
-        assert_eq!(rt; sink.room(), 14);
+    let mut source = SureSource::new(Vec::from_slice(alloc, b"one two")?);
+    match take_all(alloc, &mut source, 100) {
+        Ok(bytes) => assert_eq!(rt; bytes.as_slice(), b"one two".as_slice()),
+        Err(fault) => assert_eq!(rt; fault, Taking::NoMemory),
     }
+    let mut sink = SureSink::new(alloc, 8)?;
+    assert!(rt; put_all(&mut sink, b"one"));
+    assert_eq!(rt; sink.room(), 5);
+    assert!(rt; put_all(&mut sink, b" two!"));
+    assert_eq!(rt; sink.room(), 0);
+    assert!(rt; !put_all(&mut sink, b"?"));
+    assert_eq!(rt; sink.bytes(), b"one two!".as_slice());
+    sink.clear();
+    assert_eq!(rt; sink.bytes(), b"".as_slice());
     Ok(())
 }
