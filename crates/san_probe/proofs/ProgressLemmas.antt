@@ -4,17 +4,14 @@ use Rattle.std.specs.Prelude.{ℤ, pos, ◌+ℤ◌, ◌*ℤ◌}
 use Rattle.std.specs.Option.{option_map}
 use Rattle.std.proofs.lemmas.Bool.{ltb-false}
 use Rattle.san_base.specs.declared.ending.Ending.{Ending}
-use Rattle.san_base.specs.declared.ending.Ending.TheVariants as ending
 use Rattle.san_base.specs.declared.ending.Event.{Event}
-use Rattle.san_base.specs.declared.ending.Stop.{Stop}
 use Rattle.san_base.specs.declared.limits.Limits.{Limits}
-use Rattle.san_base.specs.declared.numbers.Tick.{Tick}
 use Rattle.san_draw.specs.Key.{draw_of}
 use Rattle.san_law.specs.Net.{Net}
 use Rattle.san_law.specs.Standing.{AllTo}
 use Rattle.san_law.specs.State.{State, opening_state}
 use Rattle.san_law.specs.Step as law
-use Rattle.san_law.specs.Trajectory.{Runs, Trajectory, ran_by, run, trajectory}
+use Rattle.san_law.specs.Trajectory.{Trajectory, ran_by, run, trajectory}
 use Rattle.san_law.proofs.Orders.{runs_append}
 use Rattle.san_law.proofs.Trajectories.{rest_is_trajectory}
 use Rattle.san_net.specs.Laid.{IsNetwork}
@@ -30,8 +27,7 @@ use Rattle.san_probe.proofs.WatchLemmas.{watched_more}
 use Rattle.san_seq.specs.FlatRun.{On, Run, after_step, step_of, opening}
 use Rattle.san_net.specs.Runs.{ending_in, limits_in}
 use Rattle.san_seq.specs.Reaching.{IsInTime, IsTheLaws}
-use Rattle.san_seq.specs.Outcomes.{stepped_of, event_or_ending}
-use Rattle.san_seq.specs.declared.steps.Stepped.TheVariants as stepped
+use Rattle.san_seq.specs.Outcomes.{event_or_ending}
 use Rattle.san_seq.proofs.ReachLemmas.{events_are_laws, events_in_time}
 
 -- no event is later

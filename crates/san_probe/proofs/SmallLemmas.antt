@@ -1,5 +1,5 @@
 -- No marking of a run has a value above the greatest number of tokens.
-use Rattle.std.proofs.Common.{ℕ, zero, suc, ◌+◌, ◌≤◌, ◌≡◌, ◌∙◌, ap, refl, subst, arith, List, [], ◌∷◌, map, Option, Some, None, Result, Ok, Err, Bool, true, false, nat_le, cond, slice_index, slice_index_or}
+use Rattle.std.proofs.Common.{ℕ, ◌+◌, ◌≡◌, ◌∙◌, ap, refl, subst, List, [], map, Option, Some, None, Result, Ok, Err, Bool, true, false, nat_le, cond, slice_index, slice_index_or}
 use Rattle.san_base.specs.declared.ending.Trap.{Trap}
 use Rattle.san_expr.specs.Concerns.{IsMarking}
 use Rattle.san_law.proofs.Places.{scatter_length}
@@ -8,15 +8,10 @@ use Rattle.san_law.specs.Net.{Done, Local, Net, Row, least_timer}
 use Rattle.san_law.specs.Network.{Limits, no_part}
 use Rattle.san_law.specs.Next.{Completes, Next, Stable, TrapsAt, next_instant}
 use Rattle.san_law.specs.Renewal.{AllFresh, Due, FaultAt, Renewal, least_from, renewed_from}
-use Rattle.san_law.specs.State.{State, gather, index_of, local_of, scatter, scatter_from, slots_of, taken_from}
+use Rattle.san_law.specs.State.{State, local_of, scatter, slots_of}
 use Rattle.san_law.specs.Step.{End, Ending, Over, Stepped, at_due, at_next, at_rest, complete, count_limit, fire, fired, limit_at, step, unless_over}
-use Rattle.san_net.specs.Leaf.{activities_from, activity_in, effected_by, leaf_of}
-use Rattle.san_net.specs.Instants.{Named}
-use Rattle.san_net.specs.Completion.{completion_of}
+use Rattle.san_net.specs.Leaf.{leaf_of}
 use Rattle.san_net.specs.Network.{Network, net_of}
-use Rattle.san_net.specs.declared.activity.Activity.{Activity}
-use Rattle.san_net.specs.declared.atomic.ImpulseTerm.{ImpulseTerm}
-use Rattle.san_net.specs.declared.part.Part.{Part}
 use Rattle.san_net.proofs.SmallLemmas.{KeepsValues, gather_small, leaves_small, scatter_small}
 use Rattle.san_probe.specs.Markings.{IsMarkingOf}
 

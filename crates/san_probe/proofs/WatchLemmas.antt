@@ -1,13 +1,12 @@
 -- A measure's sum as time goes on.
-use Rattle.std.proofs.Common.{ℕ, zero, suc, ◌+◌, ◌-◌, ◌*◌, ◌<◌, ◌≤◌, ◌≡◌, ◌∙◌, ap, sym, refl, List, [], ◌∷◌, ◌++◌, arith, nat_le, nat_lt, cond, Bool, true, false}
+use Rattle.std.proofs.Common.{ℕ, zero, suc, ◌+◌, ◌-◌, ◌*◌, ◌<◌, ◌≤◌, ◌≡◌, ◌∙◌, ap, sym, refl, List, ◌++◌, arith, nat_lt, cond, Bool, true, false}
 use Rattle.std.specs.Prelude.{ℤ, pos, ◌+ℤ◌, ◌*ℤ◌, unsigned_abs, ◌^◌}
 use Rattle.std.proofs.Math.IntN.{+ℤ_assoc, +ℤ_idl}
-use Rattle.std.proofs.lemmas.Bool.{lt-leb, ltb-true, ltb-false}
+use Rattle.std.proofs.lemmas.Bool.{ltb-true, ltb-false}
 use Rattle.std.proofs.lemmas.Int.{ints, unsigned_abs-mul}
 use Rattle.san_law.specs.Net.{Net}
 use Rattle.san_law.specs.State.{State, opening_state}
-use Rattle.san_law.specs.Step.{Event, step}
-use Rattle.san_law.specs.Reward.{marked}
+use Rattle.san_law.specs.Step.{Event}
 use Rattle.san_law.specs.Standing.{AllTo}
 use Rattle.san_law.specs.Trajectory.{Runs}
 use Rattle.san_law.proofs.Tallies.{AllAt, marked_end, marked_append}
