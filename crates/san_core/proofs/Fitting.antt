@@ -92,9 +92,6 @@ bare_none (None ∷ ts) zero t h is = absurd cc
 bare_none (None ∷ ts) (suc k) t h is = bare_none ts k t h is
 bare_none (Some u ∷ ts) k t h is = absurd (true≢false (sym h))
 
-unfolding is_bare
-bare_timers r e = e
-
 take_small : (k : ℕ) (m : List ℕ) → IsMarking m → IsMarking (take k m)
 take_small zero m h i = omega arith
 take_small (suc k) [] h i = omega arith
