@@ -38,6 +38,21 @@ fn activation<V: PlainView>(pair: &Option<(Expr, Expr)>, view: &mut V) -> Result
     }
 }
 
+/// The delay draw with a number. A fixed delay is the same for every draw, so that none is made for
+/// it.
+fn delay_draw<D: DrawSource>(draws: &mut D, delay: &Dist, stream: u32, n: u64) -> u64
+    requires stream { stream < D.streams draws.old }
+    requires number { n < MAX_DRAWS }
+    ensures alike { (values : List ℕ) → delay_of delay.now result values
+        ≡ delay_of delay.now (draw_of (D.seed draws.old) stream n) values }
+    ensures draws { draws.new ≡ draws.old }
+{
+    match delay {
+        Dist::Det(_) => 0,
+        _ => draws.draw(stream, n),
+    }
+}
+
 /// A timer anew: the delay with delay draw n, then the activation predicate (own rules).
 fn activate<V: PlainView, D: DrawSource>(
     renewal: &Renewal<'_>,
@@ -61,7 +76,8 @@ fn activate<V: PlainView, D: DrawSource>(
     ensures same { V.values view.new ≡ V.values view.old }
     ensures draws { draws.new ≡ draws.old }
 {
-    let ticks = delay_in(renewal.tables, delay, draws.draw(stream, n), view)?;
+    let u = delay_draw(draws, delay, stream, n);
+    let ticks = delay_in(renewal.tables, delay, u, view)?;
     let held = activation(pair, view)?;
     let due = renewal.time + ticks;
     Ok((Some(Timer { due, held }), n + 1))

@@ -12,7 +12,7 @@ use Rattle.san_net.specs.Network.{Network}
 use Rattle.san_net.specs.declared.part.Part.{Part}
 use Rattle.san_seq.specs.declared.concern.Concern.{Concern}
 use Rattle.san_seq.specs.declared.wakes.Band.{Band}
-use Rattle.san_seq.specs.inner.Wakes.{AreOrdered, EachOrdered, EachWeight, Gains, IsNoted, IsTable, Joins, Stands, bands_at}
+use Rattle.san_seq.specs.inner.Wakes.{AreOrdered, EachOrdered, EachWeight, Gains, IsIndexed, IsIndex, TakesIn, Stands, bands_at}
 use Rattle.san_seq.proofs.FlaggedLemmas.{set_other, set_same}
 use Rattle.san_seq.proofs.TouchLemmas.{taken_more}
 use Rattle.san_seq.proofs.WeightLemmas.{each_weaker}
@@ -38,10 +38,10 @@ front_or_last (z ∷ xs) y (suc k) x e = by_case (front_or_last xs y k x e)
     by_case (inr h) = inr (h.0, ap suc h.1)
 
 -- a leaf that is among some, or goes behind them
-pub joins_none : (leaf : LeafId) (leaves : List LeafId) (k : ℕ) → slice_get leaves k ≡ Some leaf → Joins leaf leaves leaves
+pub joins_none : (leaf : LeafId) (leaves : List LeafId) (k : ℕ) → slice_get leaves k ≡ Some leaf → TakesIn leaf leaves leaves
 joins_none leaf leaves k is = record { kept = λ i l e. e; at = k; there = is; ordered = λ o. o }
 
-pub joins_last : (leaf : LeafId) (leaves : List LeafId) → Joins leaf leaves (leaves ++ leaf ∷ [])
+pub joins_last : (leaf : LeafId) (leaves : List LeafId) → TakesIn leaf leaves (leaves ++ leaf ∷ [])
 joins_last leaf leaves = record { kept = λ k l e. front_stays leaves leaf k l e; at = length leaves; there = behind_all leaves leaf; ordered = ordered }
   where
     number : (l : LeafId) → leaf ≡ l → leaf.0 ≡ l.0
@@ -71,7 +71,7 @@ pub gains_both : (leaf : LeafId) (a b c : List Band) → Gains leaf a b → Gain
 gains_both leaf a b c f g = record { kept = λ w j s. g.kept w j (f.kept w j s); ordered = λ o. g.ordered (f.ordered o) }
 
 -- a leaf joins a band
-module _ (bands : List Band) (at : ℕ) (leaf : LeafId) (old new : Band) (is : slice_get bands at ≡ Some old) (weighs : new.weight ≡ old.weight) (joins : Joins leaf old.leaves.items new.leaves.items) where
+module _ (bands : List Band) (at : ℕ) (leaf : LeafId) (old new : Band) (is : slice_get bands at ≡ Some old) (weighs : new.weight ≡ old.weight) (joins : TakesIn leaf old.leaves.items new.leaves.items) where
   here : at < length bands
   here = slice_get_within bands at old is
 
@@ -102,12 +102,12 @@ module _ (bands : List Band) (at : ℕ) (leaf : LeafId) (old new : Band) (is : s
   band_stands w e = record { at = at; band = new; is = set_same bands at new here; weighs = weighs ∙ e; among = joins.at; leaf = joins.there }
 
 -- where the leaf could join it
-pub joined_gains : {T E : Type 0} (r : Result T E) (bands : List Band) (at : ℕ) (leaf : LeafId) (old new : Band) → slice_get bands at ≡ Some old → new.weight ≡ old.weight → OnOk r (Joins leaf old.leaves.items new.leaves.items)
+pub joined_gains : {T E : Type 0} (r : Result T E) (bands : List Band) (at : ℕ) (leaf : LeafId) (old new : Band) → slice_get bands at ≡ Some old → new.weight ≡ old.weight → OnOk r (TakesIn leaf old.leaves.items new.leaves.items)
     → OnOk r (Gains leaf bands (slice_set bands at new))
 joined_gains (Ok x) bands at leaf old new is weighs joins = band_gains bands at leaf old new is weighs joins
 joined_gains (Err e) bands at leaf old new is weighs joins = joins
 
-pub joined_stands : {T E : Type 0} (r : Result T E) (bands : List Band) (at : ℕ) (leaf : LeafId) (old new : Band) → slice_get bands at ≡ Some old → new.weight ≡ old.weight → OnOk r (Joins leaf old.leaves.items new.leaves.items)
+pub joined_stands : {T E : Type 0} (r : Result T E) (bands : List Band) (at : ℕ) (leaf : LeafId) (old new : Band) → slice_get bands at ≡ Some old → new.weight ≡ old.weight → OnOk r (TakesIn leaf old.leaves.items new.leaves.items)
     → OnOk r ((weight : ℕ) → ((band : Band) → slice_get bands at ≡ Some band → band.weight ≡ weight) → Stands (slice_set bands at new) weight leaf.0)
 joined_stands (Ok x) bands at leaf old new is weighs joins = λ weight f. band_stands bands at leaf old new is weighs joins weight (f old is)
 joined_stands (Err e) bands at leaf old new is weighs joins = joins
@@ -164,8 +164,8 @@ placed_there (Err e) x acts cell leaf table whole place bands h is there = there
 
 -- one cell more
 pub noted_more : (x : Concern) (acts : List Named) (leaf : LeafId) (places : List ℕ) (k place : ℕ) (before mid after : List (List Band)) → slice_get places k ≡ Some place
-    → IsNoted x acts leaf (take k places) before mid → length after ≡ length mid → ((q : ℕ) → Gains leaf (bands_at mid q) (bands_at after q)) → EachWeight x acts k (λ w. Stands (bands_at after place) w leaf.0)
-    → IsNoted x acts leaf (take (k + 1) places) before after
+    → IsIndexed x acts leaf (take k places) before mid → length after ≡ length mid → ((q : ℕ) → Gains leaf (bands_at mid q) (bands_at after q)) → EachWeight x acts k (λ w. Stands (bands_at after place) w leaf.0)
+    → IsIndexed x acts leaf (take (k + 1) places) before after
 noted_more x acts leaf places k place before mid after is so sized gains now = record {
   sized = sized ∙ so.sized;
   gains = λ q. gains_both leaf (bands_at before q) (bands_at mid q) (bands_at after q) (so.gains q) (gains q);
@@ -180,7 +180,7 @@ noted_more x acts leaf places k place before mid after is so sized gains now = r
 
 -- one leaf more
 pub table_more : (x : Concern) (n : Network) (j : ℕ) (p : Part) (t u : List (List Band)) → slice_get n.parts j ≡ Some p → p.leaf.0 ≡ j
-    → IsTable x n j t → IsNoted x p.atomic.acts p.leaf (places_of p) t u → IsTable x n (j + 1) u
+    → IsIndex x n j t → IsIndexed x p.atomic.acts p.leaf (places_of p) t u → IsIndex x n (j + 1) u
 table_more x n j p t u is number so now = record {
   sized = now.sized ∙ so.sized;
   ordered = λ q. subst (λ (m : ℕ). EachOrdered (m + 1) (bands_at u q)) number ((now.gains q).ordered (λ b band e. looser b q band e));

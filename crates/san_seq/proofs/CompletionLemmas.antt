@@ -1,77 +1,117 @@
--- A completion over a leaf's view, as the law says it.
-use Rattle.std.proofs.Common.{ℕ, ◌≡◌, ◌∙◌, ap, sym, subst, List, ◌++◌, length, map, take, Result, Ok, Err, true, false}
-use Rattle.std.specs.Result.{is_err}
+-- A completion over a copy of a leaf's cells, as the law says it.
+use Rattle.std.proofs.Common.{ℕ, zero, suc, ◌<◌, ◌≡◌, ◌≢◌, ◌∙◌, ◌⊎◌, inl, inr, ap, sym, refl, subst, arith, List, [], ◌∷◌, ◌++◌, length, map, take, Bool, cond, Option, Some, None, Result, Ok, Err, slice_index, slice_set}
+use Rattle.std.specs.Prelude.{slice_get}
+use Rattle.std.proofs.Math.Path.{fun_ext}
 use Rattle.std.proofs.Math.Seq.{take-append_seam}
+use Rattle.std.proofs.lemmas.Bool.{cases_eq, eq-eqb, ne_eqb}
+use Rattle.std.proofs.lemmas.List.{length-set}
 use Rattle.san_base.specs.declared.ending.Trap.{Trap}
 use Rattle.san_expr.specs.Meaning.{Evaluation}
 use Rattle.san_expr.specs.Meets.{Meets}
-use Rattle.san_law.proofs.Places.{scatter_length, scatter_same, scatter_twice}
-use Rattle.san_law.specs.Lawful.{AllBelow}
+use Rattle.san_expr.specs.View.{Answers, Known, ReadsCell, assigned, plain, with}
+use Rattle.san_expr.proofs.WholeLemmas.{plain_meets}
+use Rattle.san_law.proofs.Places.{scatter_length}
+use Rattle.san_law.specs.Activity.{Effected}
 use Rattle.san_law.specs.State.{gather, scatter}
-use Rattle.san_net.specs.Cells.{LiesOver}
 use Rattle.san_net.specs.Completion.{completion_of}
 use Rattle.san_net.specs.Laid.{place_of, places_of}
 use Rattle.san_net.specs.Leaf.{completed_in, effected_by}
 use Rattle.san_net.specs.declared.activity.Activity.{Activity}
 use Rattle.san_net.specs.declared.part.Part.{Part}
 use Rattle.san_net.specs.declared.part.Slot.{Slot}
-use Rattle.san_seq.specs.inner.Completions.{left_by}
-use Rattle.san_seq.specs.inner.Views.{Seen, view_state_of}
-use Rattle.san_seq.proofs.ViewLemmas.{called}
+use Rattle.san_net.proofs.CellLemmas.{cells_are}
 
-module _ (places m after : List ℕ) where
-  good : (r : Result ℕ Trap) (o : Evaluation ℕ) (final : List ℕ) → after ≡ scatter places o.left m → is_err r ≡ false → final ≡ after → (r, final) ≡ left_by places m (effected_by o r)
-  good (Ok case) o final left none is = ap (λ (n : List ℕ). (let r : Result ℕ Trap = Ok case in r, n)) (is ∙ left)
-  good (Err trap) o final left none is = absurd cc
+-- the case and the marking with the leaf's new values; a trap leaves the marking as it was
+abbrev pub values_left : List ℕ → List ℕ → Result Effected Trap → Result ℕ Trap × List ℕ
+values_left places m (Ok e) = (Ok e.case, scatter places e.values m)
+values_left places m (Err trap) = (Err trap, m)
 
-  bad : (r : Result ℕ Trap) (o : Evaluation ℕ) (final : List ℕ) → after ≡ scatter places o.left m → is_err r ≡ true → final ≡ scatter places (gather places m) after
-      → (r, final) ≡ left_by places m (effected_by o r)
-  bad (Ok case) o final left some is = absurd cc
-  bad (Err trap) o final left some is =
-      ap (λ (n : List ℕ). (let r : Result ℕ Trap = Err trap in r, n))
-      (is ∙ ap (scatter places (gather places m)) left ∙ scatter_twice places (gather places m) o.left m ∙ scatter_same places m)
-
-module _ (p : Part) (slots : List Slot) (m : List ℕ) (s t : Seen) (slot : slots ≡ p.slots) (places : s.places ≡ map place_of slots) (marking : s.marking ≡ m) (a : Activity) (u : ℕ)
-    (r : Result ℕ Trap) (did : Meets (view_state_of s) (view_state_of t) (completion_of u a) r) where
+module _ (p : Part) (slots : List Slot) (m values left : List ℕ) (slot : slots ≡ p.slots) (seen : values ≡ gather (map place_of slots) m) (a : Activity) (u : ℕ) (r : Result ℕ Trap)
+    (did : Meets (plain values) (plain left) (completion_of u a) r) where
   abbrev done : Evaluation ℕ
   done = completion_of u a (gather (places_of p) m)
 
-  places_are : s.places ≡ places_of p
-  places_are = places ∙ ap (map place_of) slot
-
-  values_are : gather s.places s.marking ≡ gather (places_of p) m
-  values_are = ap (λ (ps : List ℕ). gather ps s.marking) places_are ∙ ap (gather (places_of p)) marking
-
-  after : t.marking ≡ scatter (places_of p) done.left m
-  after =
-      (called s t (completion_of u a) r did).marking
-      ∙ ap (λ (v : List ℕ). scatter s.places (completion_of u a v).left s.marking) values_are
-      ∙ ap (λ (ps : List ℕ). scatter ps done.left s.marking) places_are
-      ∙ ap (scatter (places_of p) done.left) marking
+  values_are : values ≡ gather (places_of p) m
+  values_are = seen ∙ ap (λ (ss : List Slot). gather (map place_of ss) m) slot
 
   answer : done.answer ≡ r
-  answer = ap (λ (v : List ℕ). (completion_of u a v).answer) (sym values_are) ∙ (called s t (completion_of u a) r did).answer
+  answer = ap (λ (v : List ℕ). (completion_of u a v).answer) (sym values_are) ∙ (plain_meets values left (completion_of u a) r did).0
 
-  effected : left_by (places_of p) m (effected_by done r) ≡ left_by (places_of p) m (completed_in a u (gather (places_of p) m))
-  effected = ap (λ (x : Result ℕ Trap). left_by (places_of p) m (effected_by done x)) (sym answer)
+  left_is : left ≡ done.left
+  left_is = (plain_meets values left (completion_of u a) r did).1 ∙ ap (λ (v : List ℕ). (completion_of u a v).left) values_are
 
-  pub over_after : (n : List ℕ) → n ≡ t.marking → LiesOver (places_of p) m → LiesOver (map place_of slots) n
-  over_after n is over =
-      subst (λ (ps : List ℕ). LiesOver ps n) (sym (ap (map place_of) slot)) (record {
-        apart = over.apart;
-        within = subst (λ (k : ℕ). AllBelow (places_of p) k) (sym (ap length (is ∙ after) ∙ scatter_length (places_of p) done.left m)) over.within;
-      })
+  effected : values_left (places_of p) m (effected_by done r) ≡ values_left (places_of p) m (completed_in a u (gather (places_of p) m))
+  effected = ap (λ (x : Result ℕ Trap). values_left (places_of p) m (effected_by done x)) (sym answer)
 
-  pub completes : (final : List ℕ) → is_err r ≡ false → final ≡ t.marking → (r, final) ≡ left_by (places_of p) m (completed_in a u (gather (places_of p) m))
-  completes final none is = good (places_of p) m t.marking r done final after none is ∙ effected
+  -- there are as many cells as before
+  pub as_many_cells : length left ≡ length slots
+  as_many_cells = did.places ∙ ap length seen ∙ cells_are (map place_of slots) m ∙ Rattle.std.proofs.lemmas.List.length-map slots place_of
 
-  pub traps : (final : List ℕ) → is_err r ≡ true → final ≡ scatter (map place_of slots) (gather (map place_of slots) m) t.marking
-      → (r, final) ≡ left_by (places_of p) m (completed_in a u (gather (places_of p) m))
-  traps final some is =
-      bad (places_of p) m t.marking r done final after some
-      (is ∙ ap (λ (ss : List Slot). scatter (map place_of ss) (gather (map place_of ss) m) t.marking) slot) ∙ effected
+  pub completes : (case : ℕ) (final : List ℕ) → r ≡ Ok case → final ≡ scatter (map place_of slots) left m → (r, final) ≡ values_left (places_of p) m (completed_in a u (gather (places_of p) m))
+  completes case final e is =
+      ap (λ (x : Result ℕ Trap). (x, final)) e
+      ∙ ap (λ (n : List ℕ). (let x : Result ℕ Trap = Ok case in x, n)) (is ∙ ap (λ (ss : List Slot). scatter (map place_of ss) left m) slot ∙ ap (λ (v : List ℕ). scatter (places_of p) v m) left_is)
+      ∙ ap (λ (x : Result ℕ Trap). values_left (places_of p) m (effected_by done x)) (sym e) ∙ effected
+
+  pub traps : (trap : Trap) → r ≡ Err trap → (r, m) ≡ values_left (places_of p) m (completed_in a u (gather (places_of p) m))
+  traps trap e =
+      ap (λ (x : Result ℕ Trap). (x, m)) e ∙ ap (λ (x : Result ℕ Trap). values_left (places_of p) m (effected_by done x)) (sym e) ∙ effected
 
 -- a vector's elements written over by as many
+pub written_over : (n : ℕ) (ws us : List ℕ) → length ws ≡ n → take n (ws ++ us) ≡ ws
+written_over n ws us sized = ap (λ (k : ℕ). take k (ws ++ us)) (sym sized) ∙ take-append_seam ws us
+
 pub refilled : (n : ℕ) (ws us before places values : List ℕ) → ws ≡ scatter places values before → length before ≡ n → take n (ws ++ us) ≡ ws
-refilled n ws us before places values is sized =
-    ap (λ (k : ℕ). take k (ws ++ us)) (sym (ap length is ∙ scatter_length places values before ∙ sized)) ∙ take-append_seam ws us
+refilled n ws us before places values is sized = written_over n ws us (ap length is ∙ scatter_length places values before ∙ sized)
+
+-- a cell of the front of a room
+pub front_within : (n : ℕ) (xs : List ℕ) (k : ℕ) → k < length (take n xs) → k < length xs
+front_within zero xs k h = absurd (omega (arith, h))
+front_within (suc n) [] k h = absurd (omega (arith, h))
+front_within (suc n) (x ∷ xs) zero h = omega arith
+front_within (suc n) (x ∷ xs) (suc k) h = let rest : k < length xs = front_within n xs k (omega (arith, h)) in omega (arith, rest)
+
+front_at : (n : ℕ) (xs : List ℕ) (k : ℕ) → k < length (take n xs) → slice_get (take n xs) k ≡ Some (slice_index xs k)
+front_at zero xs k h = absurd (omega (arith, h))
+front_at (suc n) [] k h = absurd (omega (arith, h))
+front_at (suc n) (x ∷ xs) zero h = refl
+front_at (suc n) (x ∷ xs) (suc k) h = front_at n xs k (omega (arith, h))
+
+pub front_read : (n : ℕ) (xs s : List ℕ) (k v : ℕ) → take n xs ≡ s → k < length s → v ≡ slice_index xs k → ReadsCell (plain s) (plain s) k v
+front_read n xs s k v is h e =
+    let at = ap (λ (y : List ℕ). slice_get y k) (sym is) ∙ front_at n xs k (subst (λ (y : List ℕ). k < length y) (sym is) h) in
+    subst (λ (o : Option ℕ). Answers o None (plain s) (plain s) k v) (sym at) (e, refl)
+
+set_front : (n : ℕ) (xs : List ℕ) (k v : ℕ) → take n (slice_set xs k v) ≡ slice_set (take n xs) k v
+set_front zero xs k v = refl
+set_front (suc n) [] k v = refl
+set_front (suc n) (x ∷ xs) zero v = refl
+set_front (suc n) (x ∷ xs) (suc k) v = ap (λ (ys : List ℕ). x ∷ ys) (set_front n xs k v)
+
+get_same : (values : List ℕ) (k v : ℕ) → k < length values → slice_get (slice_set values k v) k ≡ Some v
+get_same [] k v h = absurd (omega (arith, h))
+get_same (x ∷ xs) zero v h = refl
+get_same (x ∷ xs) (suc k) v h = get_same xs k v (omega (arith, h))
+
+get_other : (values : List ℕ) (k p v : ℕ) → p ≢ k → slice_get (slice_set values k v) p ≡ slice_get values p
+get_other [] k p v n = refl
+get_other (x ∷ xs) zero zero v n = absurd (n refl)
+get_other (x ∷ xs) zero (suc p) v n = refl
+get_other (x ∷ xs) (suc k) zero v n = refl
+get_other (x ∷ xs) (suc k) (suc p) v n = get_other xs k p v (λ e. n (ap suc e))
+
+own_at : (values : List ℕ) (k v p : ℕ) → k < length values → (p ≡ k) ⊎ (p ≢ k) → slice_get (slice_set values k v) p ≡ with (λ q. slice_get values q) k v p
+own_at values k v p h (inl e) =
+    ap (slice_get (slice_set values k v)) e ∙ get_same values k v h ∙ sym (ap (λ (b : Bool). cond b (Some v) (slice_get values p)) (eq-eqb p k e))
+own_at values k v p h (inr n) = get_other values k p v n ∙ sym (ap (λ (b : Bool). cond b (Some v) (slice_get values p)) (ne_eqb p k n))
+
+-- an assignment to a view of these values
+set_plain : (values : List ℕ) (k v : ℕ) → k < length values → plain (slice_set values k v) ≡ assigned (plain values) k v
+set_plain values k v h =
+    let own_is : (λ p. slice_get (slice_set values k v) p) ≡ with (λ p. slice_get values p) k v = fun_ext (λ p. own_at values k v p h (cases_eq p k)) in
+    ap (λ (n : ℕ). record { places = n; first = λ p. None; own = λ p. slice_get (slice_set values k v) p; behind = []; kept = [] }) (length-set values k v)
+    ∙ ap (λ (own : Known). record { places = length values; first = λ p. None; own = own; behind = []; kept = [] }) own_is
+
+pub front_set : (n : ℕ) (xs s : List ℕ) (k v : ℕ) → take n xs ≡ s → k < length s → plain (take n (slice_set xs k v)) ≡ assigned (plain s) k v
+front_set n xs s k v is h =
+    ap plain (set_front n xs k v ∙ ap (λ (y : List ℕ). slice_set y k v) is) ∙ set_plain s k v h

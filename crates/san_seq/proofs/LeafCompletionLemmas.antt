@@ -16,7 +16,8 @@ use Rattle.san_net.specs.Laid.{places_of}
 use Rattle.san_net.specs.Leaf.{activities_from, activity_in, completed_in}
 use Rattle.san_net.specs.declared.atomic.ImpulseTerm.{ImpulseTerm}
 use Rattle.san_net.specs.declared.part.Part.{Part}
-use Rattle.san_seq.specs.inner.Completions.{completed_by, leaf_left, left_by, part_left, done_left}
+use Rattle.san_seq.proofs.CompletionLemmas.{values_left}
+use Rattle.san_seq.specs.inner.Completions.{completed_by, leaf_left, part_left, done_left}
 
 some_is : {A : Type 0} (x y : A) → (let o : Option A = Some x in o) ≡ Some y → x ≡ y
 some_is x y e = cc
@@ -29,18 +30,18 @@ act_is terms j (b ∷ acts) (suc k) a is = let next : suc j + k ≡ j + suc k = 
 
 -- the completion's case and marking
 module _ (places m : List ℕ) (row : Row) (k : ℕ) (act : Activity) where
-  by_result : (r : Result Effected Trap) → completed_by (left_by places m r).0 (left_by places m r).1 (with_case row k) ≡ done_left places m (done_by row k act r)
+  by_result : (r : Result Effected Trap) → completed_by (values_left places m r).0 (values_left places m r).1 (with_case row k) ≡ done_left places m (done_by row k act r)
   by_result (Ok e) = refl
   by_result (Err trap) = refl
 
 pub done_is : (p : Part) (draw : ℕ → ℕ → ℕ) (k u : ℕ) (m after : List ℕ) (row : Row) (a : Named) (case : Result ℕ Trap) → slice_get p.atomic.acts k ≡ Some a
     → u ≡ draw (2 * (p.first.0 + k) + 1) (slice_index row.cases k)
-    → (case, after) ≡ left_by (places_of p) m (completed_in a.1 u (gather (places_of p) m))
+    → (case, after) ≡ values_left (places_of p) m (completed_in a.1 u (gather (places_of p) m))
     → completed_by case after (with_case row k) ≡ part_left draw p k m row
 done_is p draw k u m after row a case is drawn did =
     let act : Activity = activity_in p.atomic.impulses (0 + k) a.1 in
     ap (λ (x : Result ℕ Trap × List ℕ). completed_by x.0 x.1 (with_case row k)) did
-    ∙ ap (λ (n : ℕ). completed_by (left_by (places_of p) m (completed_in a.1 n (gather (places_of p) m))).0 (left_by (places_of p) m (completed_in a.1 n (gather (places_of p) m))).1 (with_case row k)) drawn
+    ∙ ap (λ (n : ℕ). completed_by (values_left (places_of p) m (completed_in a.1 n (gather (places_of p) m))).0 (values_left (places_of p) m (completed_in a.1 n (gather (places_of p) m))).1 (with_case row k)) drawn
     ∙ by_result (places_of p) m row k act (completed_in a.1 (draw (2 * (p.first.0 + k) + 1) (slice_index row.cases k)) (gather (places_of p) m))
     ∙ ap (λ (x : Activity). done_left (places_of p) m (done_by row k x (x.complete (draw (2 * (p.first.0 + k) + 1) (slice_index row.cases k)) (gather (places_of p) m)))) (sym (act_is p.atomic.impulses 0 p.atomic.acts k a is))
 
@@ -53,11 +54,11 @@ pub not_counted : (case : Result ℕ Trap) (trap : Trap) (row now : Row) (k : �
 not_counted case trap row now k is e = e ∙ ap (λ (r : Result ℕ Trap). counted_by r row k) is
 
 -- a trap leaves the marking
-pub kept_is : (places m after : List ℕ) (trap : Trap) (r : Result Effected Trap) → ((let x : Result ℕ Trap = Err trap in x), after) ≡ left_by places m r → after ≡ m
+pub kept_is : (places m after : List ℕ) (trap : Trap) (r : Result Effected Trap) → ((let x : Result ℕ Trap = Err trap in x), after) ≡ values_left places m r → after ≡ m
 kept_is places m after trap (Ok e) is = let both : (let x : Result ℕ Trap = Err trap in x) ≡ Ok e.case = ap (λ x. x.0) is in absurd cc
 kept_is places m after trap (Err other) is = ap (λ x. x.1) is
 
-pub sized_is : (places m after : List ℕ) (case : Result ℕ Trap) (r : Result Effected Trap) → (case, after) ≡ left_by places m r → length after ≡ length m
+pub sized_is : (places m after : List ℕ) (case : Result ℕ Trap) (r : Result Effected Trap) → (case, after) ≡ values_left places m r → length after ≡ length m
 sized_is places m after case (Ok e) is = ap (λ x. length x.1) is ∙ scatter_length places e.values m
 sized_is places m after case (Err trap) is = ap (λ x. length x.1) is
 

@@ -4,6 +4,7 @@ pub mod BandLemmas
 pub mod CompletionLemmas
 pub mod DueLemmas
 pub mod FlaggedLemmas
+pub mod HeldLemmas
 pub mod KnownLemmas
 pub mod LeafCompletionLemmas
 pub mod LimitLemmas
@@ -22,6 +23,5 @@ pub mod SearchLemmas
 pub mod StateLemmas
 pub mod SteppingLemmas
 pub mod TouchLemmas
-pub mod ViewLemmas
 pub mod WeightLemmas
 pub mod WithinLemmas

@@ -8,11 +8,9 @@ use Rattle.san_law.specs.State.{State, gather, slots_of}
 use Rattle.std.proofs.lemmas.Bool.{cases_lt}
 use Rattle.std.proofs.lemmas.List.{length-map}
 use Rattle.san_law.specs.Network.{Limits as Bounds, part_at}
-use Rattle.san_net.specs.Instants.{Named}
 use Rattle.san_net.specs.Laid.{IsNetwork}
-use Rattle.san_net.specs.Leaf.{activities_from, leaf_of}
+use Rattle.san_net.specs.Leaf.{leaf_of}
 use Rattle.san_net.specs.Network.{Network, net_of, network_in}
-use Rattle.san_net.specs.declared.atomic.ImpulseTerm.{ImpulseTerm}
 use Rattle.san_seq.specs.inner.Rows.{AreRows, row_at}
 use Rattle.san_net.specs.Tables.{IsActOf}
 use Rattle.san_clock.proofs.DueLemmas.{least_within}

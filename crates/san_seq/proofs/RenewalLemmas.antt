@@ -18,14 +18,14 @@ use Rattle.san_seq.specs.inner.Known.{AreFresh}
 use Rattle.san_seq.proofs.FlaggedLemmas.{up_or_down}
 use Rattle.san_seq.proofs.NextLemmas.{cut}
 use Rattle.san_seq.proofs.RowLemmas.{part_renewed}
-use Rattle.san_seq.specs.inner.Renewals.{AreRenewed, Fault, IsBy, IsFault, IsRenewed, sooner_fault}
+use Rattle.san_seq.specs.inner.Renewals.{AreRenewed, FirstTrap, IsBy, IsFirstTrap, IsRenewed, sooner_fault}
 use Rattle.san_seq.specs.inner.Rows.{renewal_by, row_at}
 
 abbrev Renewed : Type 0
 Renewed = Result (Unit {0}) (ℕ × Trap)
 
 -- what the fault of the first is: the known one or the new one
-sooner_is : (P : Fault → Type 0) (known : Fault) (leaf : LeafId) (done : Renewed) → P known → ((fault : ℕ × Trap) → done ≡ Err fault → P (Err (leaf, fault.0, fault.1))) → P (sooner_fault known leaf done)
+sooner_is : (P : FirstTrap → Type 0) (known : FirstTrap) (leaf : LeafId) (done : Renewed) → P known → ((fault : ℕ × Trap) → done ≡ Err fault → P (Err (leaf, fault.0, fault.1))) → P (sooner_fault known leaf done)
 sooner_is P known leaf (Ok done) a b = a
 sooner_is P (Ok none) leaf (Err fault) a b = b fault refl
 sooner_is P (Err first) leaf (Err fault) a b = by_test (nat_lt leaf.0 first.0.0)
@@ -39,20 +39,20 @@ by_test_by true leaf k trap first j a b = a refl
 by_test_by false leaf k trap first j a b = b refl
 
 -- it stays before what a fault was before
-sooner_by : (known : Fault) (leaf : LeafId) (done : Renewed) (j : ℕ) → IsBy known j → IsBy (sooner_fault known leaf done) j
+sooner_by : (known : FirstTrap) (leaf : LeafId) (done : Renewed) (j : ℕ) → IsBy known j → IsBy (sooner_fault known leaf done) j
 sooner_by known leaf (Ok done) j h = h
 sooner_by (Ok none) leaf (Err fault) j h = absurd h
 sooner_by (Err first) leaf (Err fault) j h =
     by_test_by (nat_lt leaf.0 first.0.0) leaf fault.0 fault.1 first j
     (λ e. let low : leaf.0 < first.0.0 = Rattle.std.proofs.Common.ltb-true leaf.0 first.0.0 e in omega (arith, low, h)) (λ e. h)
 
-sooner_here : (known : Fault) (leaf : LeafId) (fault : ℕ × Trap) → IsBy (sooner_fault known leaf (Err fault)) leaf.0
+sooner_here : (known : FirstTrap) (leaf : LeafId) (fault : ℕ × Trap) → IsBy (sooner_fault known leaf (Err fault)) leaf.0
 sooner_here (Ok none) leaf fault = omega arith
 sooner_here (Err first) leaf fault =
     by_test_by (nat_lt leaf.0 first.0.0) leaf fault.0 fault.1 first leaf.0
     (λ e. omega arith) (λ e. Rattle.std.proofs.Common.ltb-false leaf.0 first.0.0 e)
 
-module _ (net : Net) (s : State) (old rows : List Row) (leaves : List ℕ) (k : ℕ) (fault : Fault) where
+module _ (net : Net) (s : State) (old rows : List Row) (leaves : List ℕ) (k : ℕ) (fault : FirstTrap) where
   module _ (leaf : LeafId) (new : Row) (done : Renewed) (h : leaf.0 < length rows) (sized : length rows ≡ length old) (here : slice_get leaves k ≡ Some leaf.0)
       (once : (i : ℕ) → slice_get leaves i ≡ Some leaf.0 → i ≡ k) (left : row_at rows leaf.0 ≡ row_at old leaf.0) (did : renewing_by done new ≡ renewed_at net s leaf.0 (row_at rows leaf.0)) where
     was : renewing_by done new ≡ renewed_at net s leaf.0 (row_at old leaf.0)
@@ -65,8 +65,8 @@ module _ (net : Net) (s : State) (old rows : List Row) (leaves : List ℕ) (k : 
     pub renewed_more : AreRenewed net s old rows leaves k fault → AreRenewed net s old (slice_set rows leaf.0 new) leaves (k + 1) (sooner_fault fault leaf done)
     renewed_more so = record { each = each; first = first }
       where
-        first : IsFault net s old (sooner_fault fault leaf done)
-        first = sooner_is (IsFault net s old) fault leaf done so.first (λ f e. (omega (arith, h, sized), sym was ∙ ap (λ (r : Renewed). renewing_by r new) e))
+        first : IsFirstTrap net s old (sooner_fault fault leaf done)
+        first = sooner_is (IsFirstTrap net s old) fault leaf done so.first (λ f e. (omega (arith, h, sized), sym was ∙ ap (λ (r : Renewed). renewing_by r new) e))
 
         kept : (j : ℕ) → j ≢ leaf.0 → IsRenewed net s old rows fault j → IsRenewed net s old (slice_set rows leaf.0 new) (sooner_fault fault leaf done) j
         kept j other (inl e) = inl (e ∙ ap Fresh (sym (get_or-set_other rows leaf.0 j new no_row other)))
@@ -101,7 +101,7 @@ left_more old rows leaves k at new here left j none =
     ∙ left j (λ i u is. none i (omega (arith, u)) is)
 
 -- once all stale leaves are renewed
-module _ (n : Network) (draw : ℕ → ℕ → ℕ) (limits : Bounds) (s : State) (stale : List Bool) (leaves : List ℕ) (time : ℕ) (stable m : List ℕ) (old rows : List Row) (k : ℕ) (fault : Fault)
+module _ (n : Network) (draw : ℕ → ℕ → ℕ) (limits : Bounds) (s : State) (stale : List Bool) (leaves : List ℕ) (time : ℕ) (stable m : List ℕ) (old rows : List Row) (k : ℕ) (fault : FirstTrap)
     (clock : s.time ≡ time) (seen : s.stable ≡ stable) (now : s.marking ≡ m) (fresh : AreFresh draw n.parts stale time stable m old) (listed : AreListed leaves stale)
     (flags : length stale ≡ length n.parts) (long : length leaves ≤ k) (sized : length old ≡ length n.parts) (left : AreLeft old rows leaves k) where
   pub each_renewed : AreRenewed (net_of n draw limits) s old rows leaves k fault → (j : ℕ) → j < length old → IsRenewed (net_of n draw limits) s old rows fault j
@@ -146,7 +146,7 @@ one_faulty net s i (suc j) k trap (o ∷ os) rows h each here =
     dropped (r ∷ rs) x = refl
 
 -- where each leaf is renewed, or comes after a fault
-pub renewed_whole : (net : Net) (s : State) (old rows : List Row) (fault : Fault) → length rows ≡ length old → ((j : ℕ) → j < length old → IsRenewed net s old rows fault j) → IsFault net s old fault → renewal_by fault rows ≡ renewed_from net s 0 old
+pub renewed_whole : (net : Net) (s : State) (old rows : List Row) (fault : FirstTrap) → length rows ≡ length old → ((j : ℕ) → j < length old → IsRenewed net s old rows fault j) → IsFirstTrap net s old fault → renewal_by fault rows ≡ renewed_from net s 0 old
 renewed_whole net s old rows (Ok done) sized each first = sym (all_fresh net s 0 old rows sized (λ j h. let at : 0 + j ≡ j = omega arith in ap (λ (k : ℕ). renewed_at net s k (row_at old j)) at ∙ fresh j (each j h)))
   where
     fresh : (j : ℕ) → IsRenewed net s old rows (Ok done) j → renewed_at net s j (row_at old j) ≡ Fresh (row_at rows j)

@@ -60,16 +60,16 @@ abbrev pub with_both : State → List ℕ → List Row → State
 with_both s m rows = record { time = s.time; marking = m; stable = s.stable; rows = rows; burst = s.burst; last = s.last; count = s.count }
 
 -- what a trap leaves is the state
-pub kept : (v s : State) (m : List ℕ) (rows : List Row) → m ≡ v.marking → rows ≡ v.rows → v ≡ s → with_both v m rows ≡ s
-kept v s m rows same still e = ap (λ (x : List ℕ). with_both v x rows) same ∙ ap (with_both v v.marking) still ∙ e
+pub kept : (v s : State) (final m : List ℕ) (rows : List Row) → final ≡ m → m ≡ v.marking → rows ≡ v.rows → v ≡ s → with_both v final rows ≡ s
+kept v s final m rows written same still e = ap (λ (x : List ℕ). with_both v x rows) (written ∙ same) ∙ ap (with_both v v.marking) still ∙ e
 
 pub if_err : (r : Result ℕ Trap) (trap : Trap) (P : Trap → Type 0) → r ≡ Err trap → IfErr r P → P trap
 if_err r trap P is holds = subst (λ (x : Result ℕ Trap). IfErr x P) is holds
 
 -- what the completion left, in the state's own words
-pub done_in : (n : Network) (draw : ℕ → ℕ → ℕ) (limits : Limits) (v s : State) (j k : ℕ) → v ≡ s
-    → leaf_left n draw limits j k v.marking (row_at v.rows j) ≡ leaf_left n draw limits j k s.marking (row_at s.rows j)
-done_in n draw limits v s j k e = ap (λ (x : State). leaf_left n draw limits j k x.marking (row_at x.rows j)) e
+pub done_in : (n : Network) (draw : ℕ → ℕ → ℕ) (limits : Limits) (v s : State) (m : List ℕ) (j k : ℕ) → m ≡ v.marking → v ≡ s
+    → leaf_left n draw limits j k m (row_at v.rows j) ≡ leaf_left n draw limits j k s.marking (row_at s.rows j)
+done_in n draw limits v s m j k lent e = ap (λ (x : List ℕ). leaf_left n draw limits j k x (row_at v.rows j)) lent ∙ ap (λ (x : State). leaf_left n draw limits j k x.marking (row_at x.rows j)) e
 
-pub left_is : (v s : State) (burst j : ℕ) (m : List ℕ) (rows : List Row) (row : Row) → rows ≡ slice_set v.rows j row → v ≡ s → left_rows v burst j m rows ≡ left_with s burst j m row
-left_is v s burst j m rows row set e = ap (left_rows v burst j m) set ∙ ap (λ (x : State). left_with x burst j m row) e
+pub left_is : (v s : State) (burst j : ℕ) (final m : List ℕ) (rows : List Row) (row : Row) → final ≡ m → rows ≡ slice_set v.rows j row → v ≡ s → left_rows v burst j final rows ≡ left_with s burst j m row
+left_is v s burst j final m rows row written is e = ap (λ (x : List ℕ). left_rows v burst j x rows) written ∙ ap (left_rows v burst j m) is ∙ ap (λ (x : State). left_with x burst j m row) e

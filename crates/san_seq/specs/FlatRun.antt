@@ -2,7 +2,6 @@
 use Rattle.std.specs.Prelude.{ℕ, suc, ◌+◌, ◌-◌, ◌≤◌, ◌≡◌, ◌++◌, List, [], ◌∷◌, length, Option, Some, None, Result, Ok, Err}
 use Rattle.std.specs.Option.{option_map}
 use Rattle.san_base.specs.declared.ending.Ending.{Ending}
-use Rattle.san_base.specs.declared.ending.Ending.TheVariants as ending
 use Rattle.san_base.specs.declared.ending.Event.{Event}
 use Rattle.san_base.specs.declared.limits.Limits.{Limits}
 use Rattle.san_draw.specs.Key.{draw_of}
@@ -14,8 +13,6 @@ use Rattle.san_law.specs.Trajectory as whole
 use Rattle.san_net.specs.Network.{Network, net_of}
 use Rattle.san_net.specs.Runs.{ending_in, limits_in}
 use Rattle.san_seq.specs.Outcomes.{event_or_ending, trajectory_in}
-use Rattle.san_seq.specs.declared.seq.Phase.{Phase}
-use Rattle.san_seq.specs.declared.seq.Phase.TheVariants as phase
 use Rattle.san_seq.specs.declared.steps.Stable.{Stable}
 use Rattle.san_seq.specs.declared.steps.Trajectory.{Trajectory}
 
@@ -24,9 +21,10 @@ pub data RunPhase : Type 0 where
   On : (state : State) → RunPhase
   Done : (marking : List ℕ) (ending : Ending) → RunPhase
 
-abbrev pub run_phase_in : Phase → RunPhase
-run_phase_in (phase.Running state) = On state
-run_phase_in (phase.Ended marking ending) = Done marking.items ending
+-- a state, and an ending if the run is over
+abbrev pub run_phase_of : State → Option Ending → RunPhase
+run_phase_of s None = On s
+run_phase_of s (Some e) = Done s.marking e
 
 -- a run of a network with a seed and limits
 pub record Run : Type 0 where
@@ -98,11 +96,6 @@ TellsPrefix r = (t : Run) (es : List Event) → Tells r es t → IsPrefix r t es
 -- every run comes to an ending
 abbrev pub HasRest : Run → Type 0
 HasRest r = (t : Trajectory) × (rest_of r ≡ Some t)
-
--- where a run that is held is
-abbrev pub run_phase_of : Option Phase → RunPhase
-run_phase_of None = Done [] (ending.End (record { 0 = 0 }))
-run_phase_of (Some now) = run_phase_in now
 
 -- the time and the number of events of a state in which no instantaneous activity is enabled or traps
 abbrev pub where_stable : next.Next → State → Option Stable

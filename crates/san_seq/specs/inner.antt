@@ -10,5 +10,4 @@ pub mod Renewals
 pub mod Rows
 pub mod Running
 pub mod States
-pub mod Views
 pub mod Wakes

@@ -2,7 +2,7 @@
 
 ghost use Rattle.std.specs.Prelude.{◌≡◌, ◌<◌, ◌≤◌, ◌∷◌, ◌++◌, ℕ, [], true, length, map, replicate, IfOk, IfSome, OnOk, slice_get, slice_set, Some};
 ghost use Rattle.san_net.specs.Laid.{places_of};
-ghost use Rattle.san_seq.specs.inner.Wakes.{EachInstant, EachOf, EachOfAct, EachTimed, EachWeight, Gains, IsNoted, IsTable, Joins, Stands, bands_at, weight_at};
+ghost use Rattle.san_seq.specs.inner.Wakes.{EachInstant, EachOf, EachOfAct, EachTimed, EachWeight, Gains, IsIndexed, IsIndex, TakesIn, Stands, bands_at, weight_at};
 ghost use Rattle.san_seq.specs.declared.wakes.Band.{Band};
 
 use crate::concern::{Concern, weight_at};
@@ -23,7 +23,7 @@ fn is_last(leaves: &[LeafId], leaf: LeafId) -> bool
 
 /// Puts a leaf behind others, unless it is the last of them.
 fn join(leaves: &mut Vec<LeafId>, leaf: LeafId) -> Result<(), NoMemory>
-    ensures { OnOk result (Joins leaf leaves.old.items leaves.new.items) }
+    ensures { OnOk result (TakesIn leaf leaves.old.items leaves.new.items) }
 {
     if is_last(leaves, leaf) {
         return Ok(());
@@ -225,7 +225,7 @@ fn note(
     requires within { (i place : ℕ) → slice_get (places_of part.now) i ≡ Some place
         → place < length table.old.items }
     ensures sized { length table.new.items ≡ length table.old.items }
-    ensures noted { OnOk result (IsNoted concern part.now.atomic.acts part.now.leaf (places_of
+    ensures noted { OnOk result (IsIndexed concern part.now.atomic.acts part.now.leaf (places_of
         part.now) (map (λ v. v.items) table.old.items) (map (λ v. v.items) table.new.items)) }
 {
     let slots = part.slots.as_slice();
@@ -254,7 +254,7 @@ pub(crate) fn table(
     flat: &Flat,
     concern: Concern,
 ) -> Result<Vec<Vec<Band>>, NoMemory>
-    ensures { IfOk result (λ v. IsTable concern flat.now (length flat.now.parts) (map (λ x. x.items)
+    ensures { IfOk result (λ v. IsIndex concern flat.now (length flat.now.parts) (map (λ x. x.items)
         v.items)) }
 {
     flat.is_network();

@@ -14,7 +14,6 @@
 mod bands;
 mod completion;
 mod concern;
-mod flagged;
 mod laws;
 mod next;
 mod renewal;

@@ -14,9 +14,8 @@ ghost use Rattle.san_seq.specs.inner.Known.{AreSettled, HaveSame};
 ghost use Rattle.san_seq.specs.inner.Nexts.{first_by, first_from, next_among, next_in};
 ghost use Rattle.san_seq.specs.inner.Wakes.{AreOrdered, AreWoken, EachOrdered};
 
-use crate::flagged::Flagged;
 use crate::renewal::Markings;
-use crate::stale::Stale;
+use crate::stale::{Flagged, Stale};
 use crate::wakes::{Band, Wakes};
 use san_base::{LeafId, PlaceId, Trap};
 use san_net::{FirstInstant, Flat, LeafCells, Part, first_instant};

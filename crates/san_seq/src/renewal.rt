@@ -16,8 +16,8 @@ ghost use Rattle.san_seq.specs.inner.Known.{AreFresh};
 ghost use Rattle.san_seq.specs.inner.Renewals.{renewed_part, sooner_fault};
 ghost use Rattle.san_seq.specs.inner.Rows.{AreDrawn, AreRows, IsLike, IsRowOf, renewal_by, row_at};
 
-use crate::flagged::Flagged;
 use crate::rows::Rows;
+use crate::stale::Flagged;
 use san_base::{LeafId, MAX_ACTS, Trap};
 use san_clock::{Renewal, Row, renew};
 use san_delay::DelayTables;
@@ -32,7 +32,7 @@ pub(crate) struct Markings<'a> {
 }
 
 /// A leaf whose renewal traps, with its activity, if there is one.
-type Fault = Result<(), (LeafId, u32, Trap)>;
+type FirstTrap = Result<(), (LeafId, u32, Trap)>;
 
 /// Renews the timers of a leaf at a time; a trap is answered with its activity.
 fn renew_leaf(
@@ -101,7 +101,7 @@ pub(crate) fn renew_at(
 }
 
 /// The trap of the first leaf that has one, where a further leaf was renewed.
-fn first_fault(known: Fault, leaf: LeafId, done: Result<(), (u32, Trap)>) -> Fault
+fn first_fault(known: FirstTrap, leaf: LeafId, done: Result<(), (u32, Trap)>) -> FirstTrap
     ensures { result ≡ sooner_fault known leaf done }
 {
     match (known, done) {

@@ -17,7 +17,7 @@ ghost use Rattle.san_seq.specs.inner.Dues.{AreDues, due_in, first_due};
 ghost use Rattle.san_seq.specs.inner.Openings.{rows_of};
 ghost use Rattle.san_seq.specs.inner.Rows.{AreRows, IsLike, row_at};
 
-use crate::completion::complete_at;
+use crate::completion::{Room, complete_at};
 use crate::renewal::{Markings, renew_at};
 use san_base::{LeafId, MAX_ACTS, NoMemory, Trap};
 use san_clock::{Row, least_of};
@@ -235,32 +235,32 @@ impl Rows {
     }
 
     /// Completes an activity of a leaf of the network over the marking with its next case draw: its
-    /// case, and the marking that it leaves. A trap leaves the marking and the rows as they were.
+    /// case. A trap leaves the marking and the rows as they were.
     pub(crate) fn complete(
         &mut self,
         flat: &Flat,
         streams: &mut Streams,
         leaf: LeafId,
         act: u32,
-        marking: Vec<u32>,
-    ) -> (Result<u32, Trap>, Vec<u32>)
+        room: &mut Room,
+        marking: &mut [u32],
+    ) -> Result<u32, Trap>
         requires leaf { leaf.0 < length flat.now.parts }
         requires act { (p : Part) → slice_get flat.now.parts leaf.0 ≡ Some p
             → act < length p.atomic.acts }
-        requires sized { length marking.items ≡ length flat.now.initial }
+        requires sized { length marking.old ≡ length flat.now.initial }
         requires rows { AreRows flat.now.parts self.old }
         requires streams { 2 * acts_of flat.now.parts ≤ streams.old.streams }
         requires number { slice_index (row_at self.old leaf.0).cases act + 1 < MAX_DRAWS }
-        ensures done { (limits : Limits) → completed_by result.0 result.1.items (row_at self.new
-            leaf.0) ≡ leaf_left flat.now (draw_of streams.old.seed) limits leaf.0 act marking.items
-            (row_at self.old leaf.0) }
+        ensures done { (limits : Limits) → completed_by result marking.new (row_at self.new leaf.0)
+            ≡ leaf_left flat.now (draw_of streams.old.seed) limits leaf.0 act marking.old (row_at
+            self.old leaf.0) }
         ensures others { self.new ≡ slice_set self.old leaf.0 (row_at self.new leaf.0) }
-        ensures trap { IfErr result.0 (λ trap. (result.1.items ≡ marking.items) × (self.new
-            ≡ self.old)) }
-        ensures sized { length result.1.items ≡ length marking.items }
+        ensures trap { IfErr result (λ trap. (marking.new ≡ marking.old) × (self.new ≡ self.old)) }
+        ensures sized { length marking.new ≡ length marking.old }
         ensures streams { streams.new ≡ streams.old }
     {
         let row = &mut self.rows[leaf.0 as usize];
-        complete_at(flat, streams, leaf, act, row, marking)
+        complete_at(flat, streams, leaf, act, row, room, marking)
     }
 }

@@ -10,6 +10,7 @@ ghost use Rattle.san_seq.specs.Outcomes.{stepped_of};
 ghost use Rattle.san_seq.specs.inner.Held as held;
 ghost use Rattle.san_seq.specs.inner.Nexts.{next_in};
 
+use crate::completion::Room;
 use crate::next::Next;
 use crate::rows::Rows;
 use crate::stale::Stale;
@@ -39,13 +40,6 @@ pub(crate) fn tables(alloc: Global, flat: &Flat) -> Result<DelayTables, NoMemory
     DelayTables::open(alloc, &delays)
 }
 
-/// Where a run is: it goes on from a state, or is over with the marking that it left.
-#[derive(Drop)]
-pub(crate) enum Phase {
-    Running(State),
-    Ended(Vec<u32>, Ending),
-}
-
 /// A run of a network, one step after another. All of its memory is taken by `open`.
 #[derive(Drop)]
 pub struct Seq<'a> {
@@ -57,13 +51,14 @@ pub struct Seq<'a> {
     wakes: Wakes,
     /// What may have to be looked at in the next step.
     stale: Stale,
-    /// Nothing while a step is taken.
-    phase: Option<Phase>,
+    state: State,
+    /// Once the run is over: how. Of the state only the marking counts then.
+    over: Option<Ending>,
 }
 
 impl<'a> Model for Seq<'a> {
     ghost use Rattle.san_seq.specs.FlatRun.{Run, run_phase_of};
-    ghost use Rattle.san_seq.specs.inner.Held.{IsHeld};
+    ghost use Rattle.san_seq.specs.inner.Held.{IsRun};
     ghost use Rattle.san_net.specs.contracts.part.Part as of_part;
     ghost use Rattle.std.specs.Coded.{codes};
 
@@ -71,39 +66,18 @@ impl<'a> Model for Seq<'a> {
 
     ghost coded = { Prim.hlevel (codes, of_part.the_row.coded) };
 
-    ghost view = { λ r. record { network = r.flat.now; seed = r.streams.seed; limits = r.limits; run_phase = run_phase_of r.phase } };
+    ghost view = { λ r. record { network = r.flat.now; seed = r.streams.seed; limits = r.limits; run_phase = run_phase_of r.state r.over } };
 
-    ghost invariant = { λ r. IsHeld r.flat.now r.limits r.streams.streams r.wakes r.stale r.phase };
+    ghost invariant = { λ r. IsRun r.flat.now r.limits r.streams.streams r.wakes r.stale (run_phase_of r.state r.over) };
 }
 
-/// What a step answers, and where the run is after it.
-fn stepped(
-    flat: &Flat,
-    tables: &DelayTables,
-    wakes: &Wakes,
-    streams: &mut Streams,
-    limits: &Limits,
-    stale: &mut Stale,
-    phase: Phase,
-) -> (Result<Event, Ending>, Phase)
-    requires run { held.IsRun flat.now limits.now streams.old.streams wakes.now stale.old
-        (run.run_phase_in phase) }
-    ensures step { (result.0, run.run_phase_in result.1)
-        ≡ run.stepped flat.now (net_of flat.now (draw_of streams.old.seed) (limits_in limits.now))
-        (run.run_phase_in phase) }
-    ensures run { held.IsRun flat.now limits.now streams.old.streams wakes.now stale.new
-        (run.run_phase_in result.1) }
-    ensures streams { streams.new ≡ streams.old }
+/// How a run is over after a step, if it is.
+fn over_by(answer: Result<Event, Ending>) -> Option<Ending>
+    ensures { result ≡ held.over_by answer }
 {
-    match phase {
-        Phase::Running(state) => {
-            let (answer, left) = step(flat, tables, wakes, streams, limits, stale, state);
-            match answer {
-                Ok(event) => (Ok(event), Phase::Running(left)),
-                Err(ending) => (Err(ending), Phase::Ended(left.marking, ending)),
-            }
-        }
-        Phase::Ended(marking, ending) => (Err(ending), Phase::Ended(marking, ending)),
+    match answer {
+        Ok(_) => None,
+        Err(ending) => Some(ending),
     }
 }
 
@@ -117,25 +91,6 @@ fn where_stable(next: Next, state: &State) -> Option<Stable>
             count: state.count,
         }),
         Next::Completes(_, _) | Next::Traps(_, _, _) => None,
-    }
-}
-
-/// Where a phase of a run is stable.
-fn stable_at(
-    flat: &Flat,
-    wakes: &Wakes,
-    stale: &Stale,
-    limits: &Limits,
-    phase: &Phase,
-) -> Option<Stable>
-    requires { (streams : ℕ) × held.IsRun flat.now limits.now streams wakes.now stale.now
-        (run.run_phase_in phase.now) }
-    ensures { (draw : ℕ → ℕ → ℕ) → result
-        ≡ run.stable_in (net_of flat.now draw (limits_in limits.now)) (run.run_phase_in phase.now) }
-{
-    match phase {
-        Phase::Running(state) => where_stable(next_of(flat, wakes, stale, state), state),
-        Phase::Ended(_, _) => None,
     }
 }
 
@@ -167,11 +122,13 @@ impl<'a> Seq<'a> {
         let marking = flat.initial_marking(alloc)?;
         let stable = flat.initial_marking(alloc)?;
         let rows = Rows::open(alloc, flat)?;
+        let room = Room::open(alloc)?;
         let state = State {
             time: 0,
             marking,
             stable,
             rows,
+            room,
             burst: 0,
             last: None,
             count: 0,
@@ -185,7 +142,8 @@ impl<'a> Seq<'a> {
             limits,
             wakes,
             stale,
-            phase: Some(Phase::Running(state)),
+            state,
+            over: None,
         })
     }
 
@@ -194,22 +152,20 @@ impl<'a> Seq<'a> {
         ensures answered { result ≡ (run.step_of self.old).0 }
         ensures left { self.new ≡ run.after_step self.old }
     {
-        match self.phase.take() {
-            Some(phase) => {
-                let (answer, left) = stepped(
-                    self.flat,
-                    &self.tables,
-                    &self.wakes,
-                    &mut self.streams,
-                    &self.limits,
-                    &mut self.stale,
-                    phase,
-                );
-                self.phase = Some(left);
-                answer
-            }
-            None => unreachable!(),
+        if let Some(ending) = self.over {
+            return Err(ending);
         }
+        let answer = step(
+            self.flat,
+            &self.tables,
+            &self.wakes,
+            &mut self.streams,
+            &self.limits,
+            &mut self.stale,
+            &mut self.state,
+        );
+        self.over = over_by(answer);
+        answer
     }
 
     /// One step (own rules): the next instantaneous activity completes; where there is none, the
@@ -228,9 +184,12 @@ impl<'a> Seq<'a> {
     pub fn stable(&self) -> Option<Stable>
         ensures { result ≡ run.stable_of self.now }
     {
-        match &self.phase {
-            Some(phase) => stable_at(self.flat, &self.wakes, &self.stale, &self.limits, phase),
-            None => unreachable!(),
+        match self.over {
+            None => {
+                let next = next_of(self.flat, &self.wakes, &self.stale, &self.state);
+                where_stable(next, &self.state)
+            }
+            Some(_) => None,
         }
     }
 
@@ -238,11 +197,7 @@ impl<'a> Seq<'a> {
     pub fn marking(&self) -> &[u32]
         ensures { result.now ≡ run.marking_of self.now.run_phase }
     {
-        match &self.phase {
-            Some(Phase::Running(state)) => state.marking.as_slice(),
-            Some(Phase::Ended(marking, _)) => marking.as_slice(),
-            None => unreachable!(),
-        }
+        self.state.marking.as_slice()
     }
 
     /// All the events from here on, and the ending.

@@ -1,16 +1,131 @@
-//! Which leaves may have to be looked at again, and which places have changed.
+//! Which leaves may have to be looked at again, and which places have changed: sets of numbers, as flags
+//! and the list of those that are up, in no order.
 
-ghost use Rattle.std.specs.Prelude.{◌≡◌, ◌<◌, ◌∷◌, ℕ, [], true, false, length, replicate, slice_get, slice_index, slice_set, Some, IfOk};
+ghost use Rattle.std.specs.Prelude.{◌≡◌, ◌+◌, ◌<◌, ◌∷◌, ℕ, [], true, false, length, replicate, slice_get, slice_index, slice_set, Some, IfOk};
 ghost use Rattle.san_net.specs.Laid.{places_of};
 ghost use Rattle.san_net.specs.declared.part.Part.{Part};
+ghost use Rattle.san_seq.specs.inner.Flagged.{AreListed, IsListed};
 ghost use Rattle.san_seq.specs.inner.Known.{AreRaised, AreTouched, HasFlags, HaveFlags, HaveSame, Raised};
 ghost use Rattle.san_seq.specs.inner.Wakes.{AreOrdered, AreWoken, EachOrdered};
 
-use crate::flagged::Flagged;
 use crate::wakes::{Band, Wakes};
 use san_base::{LeafId, NoMemory, PlaceId};
 use san_net::Flat;
-use std::alloc::Global;
+use std::alloc::{AllocError, Global};
+use std::marker::Model;
+
+/// A flag for each number below a bound, with a list of the numbers whose flags are up.
+#[derive(Debug, Drop)]
+pub(crate) struct Flagged {
+    flags: Vec<bool>,
+    /// The numbers stand at the front, as many as `count`.
+    list: Vec<usize>,
+    count: usize,
+}
+
+impl Model for Flagged {
+    ghost use Rattle.std.specs.Prelude.{Bool, List};
+    ghost use Rattle.san_seq.specs.inner.Flagged.{IsListed};
+
+    ghost Value = { List Bool };
+
+    ghost view = { λ f. f.flags.items };
+
+    ghost invariant = { λ f. IsListed f.flags.items f.list.items f.count };
+}
+
+fn flags_down(alloc: Global, many: usize) -> Result<Vec<bool>, AllocError>
+    ensures { IfOk result (λ v. v.items ≡ replicate many false) }
+{
+    vec![in alloc; false; many]
+}
+
+fn no_numbers(alloc: Global, many: usize) -> Result<Vec<usize>, AllocError>
+    ensures { IfOk result (λ v. v.items ≡ replicate many 0) }
+{
+    vec![in alloc; 0; many]
+}
+
+/// Puts a number behind the first so many of a list: how many they are then.
+fn push(list: &mut [usize], count: usize, at: usize) -> usize
+    requires { count < length list.old }
+    ensures list { list.new ≡ slice_set list.old count at }
+    ensures more { result ≡ count + 1 }
+{
+    list[count] = at;
+    count + 1
+}
+
+/// Puts a flag up: how many are up then.
+fn put_up(flags: &mut [bool], list: &mut [usize], count: usize, at: usize) -> usize
+    requires listed { IsListed flags.old list.old count }
+    requires at { at < length flags.old }
+    ensures flags { flags.new ≡ slice_set flags.old at true }
+    ensures listed { IsListed flags.new list.new result }
+{
+    if flags[at] {
+        return count;
+    }
+    flags[at] = true;
+    push(list, count, at)
+}
+
+/// Takes down all flags by the list of those that are up: how many are up then.
+fn take_down(flags: &mut [bool], list: &[usize], count: usize) -> usize
+    requires { IsListed flags.old list.now count }
+    ensures flags { flags.new ≡ replicate (length flags.old) false }
+    ensures listed { IsListed flags.new list.now result }
+{
+    let up = &list[..count];
+    'list: for k in 0..up.len() {
+        let at = up[k];
+        flags[at] = false;
+    }
+    0
+}
+
+impl Flagged {
+    /// `many` flags, all down.
+    pub(crate) fn open(alloc: Global, many: usize) -> Result<Flagged, NoMemory>
+        ensures { IfOk result (λ f. f ≡ replicate many false) }
+    {
+        let flags = flags_down(alloc, many)?;
+        let list = no_numbers(alloc, many)?;
+        Ok(Flagged {
+            flags,
+            list,
+            count: 0,
+        })
+    }
+
+    /// Puts a flag up.
+    pub(crate) fn raise(&mut self, at: usize)
+        requires { at < length self.old }
+        ensures { self.new ≡ slice_set self.old at true }
+    {
+        self.count = put_up(
+            self.flags.as_mut_slice(),
+            self.list.as_mut_slice(),
+            self.count,
+            at,
+        );
+    }
+
+    /// The numbers whose flags are up, each once.
+    pub(crate) fn list(&self) -> &[usize]
+        ensures { AreListed result.now self.now }
+    {
+        let list = self.list.as_slice();
+        &list[..self.count]
+    }
+
+    /// Takes all flags down.
+    pub(crate) fn clear(&mut self)
+        ensures { self.new ≡ replicate (length self.old) false }
+    {
+        self.count = take_down(self.flags.as_mut_slice(), self.list.as_slice(), self.count);
+    }
+}
 
 /// What may have to be looked at in the next step.
 #[derive(Drop)]
@@ -140,34 +255,31 @@ fn copy_at(stable: &mut [u32], marking: &[u32], at: usize)
     stable[at] = marking[at];
 }
 
-/// The marking as the last stable one, which differs at flagged places alone.
-fn catch_up(places: &Flagged, marking: &[u32], stable: Vec<u32>) -> Vec<u32>
+/// The last stable marking becomes the present one, from which it differs at flagged places alone.
+fn catch_up(places: &Flagged, marking: &[u32], stable: &mut [u32])
     requires flags { length places.now ≡ length marking.now }
-    requires stable { length stable.items ≡ length marking.now }
-    requires same { HaveSame places.now stable.items marking.now }
-    ensures { result.items ≡ marking.now }
+    requires stable { length stable.old ≡ length marking.now }
+    requires same { HaveSame places.now stable.old marking.now }
+    ensures { stable.new ≡ marking.now }
 {
     let changed = places.list();
-    let mut stable = stable;
     'places: for k in 0..changed.len() {
-        copy_at(&mut stable, marking, changed[k]);
+        copy_at(stable, marking, changed[k]);
     }
-    stable
 }
 
-/// The marking as the last stable one, since nothing is enabled in it at once and all timers are as
-/// they are to be. Nothing is stale any more.
-pub(crate) fn settle(flat: &Flat, stale: &mut Stale, marking: &[u32], stable: Vec<u32>) -> Vec<u32>
+/// The present marking is the last stable one, since nothing is enabled in it at once and all timers
+/// are as they are to be. Nothing is stale any more.
+pub(crate) fn settle(flat: &Flat, stale: &mut Stale, marking: &[u32], stable: &mut [u32])
     requires flags { HasFlags flat.now stale.old }
     requires marking { length marking.now ≡ length flat.now.initial }
-    requires stable { length stable.items ≡ length flat.now.initial }
-    requires same { HaveSame stale.old.places stable.items marking.now }
-    ensures stable { result.items ≡ marking.now }
+    requires stable { length stable.old ≡ length flat.now.initial }
+    requires same { HaveSame stale.old.places stable.old marking.now }
+    ensures stable { stable.new ≡ marking.now }
     ensures flags { HasFlags flat.now stale.new }
 {
-    let stable = catch_up(&stale.places, marking, stable);
+    catch_up(&stale.places, marking, stable);
     stale.settled = true;
     stale.timers.clear();
     stale.places.clear();
-    stable
 }

@@ -14,6 +14,7 @@ ghost use Rattle.san_seq.specs.Outcomes.{event_or_ending};
 ghost use Rattle.san_seq.specs.inner.Rows.{AreRows, row_at};
 ghost use Rattle.san_seq.specs.inner.States.{complete_in, instant_in};
 
+use crate::completion::Room;
 use crate::rows::Rows;
 use san_base::{Ending, Event, LeafId, Limits, Stop, Tick, Trap};
 use san_draw::Streams;
@@ -28,6 +29,8 @@ pub(crate) struct State {
     pub(crate) marking: Vec<u32>,
     pub(crate) stable: Vec<u32>,
     pub(crate) rows: Rows,
+    /// For the cells of the leaf that completes.
+    pub(crate) room: Room,
     pub(crate) burst: u64,
     pub(crate) last: Option<LeafId>,
     pub(crate) count: u64,
@@ -58,49 +61,37 @@ pub(crate) fn complete(
     leaf: LeafId,
     act: u32,
     burst: u64,
-    state: State,
-) -> (Result<Event, Ending>, State)
+    state: &mut State,
+) -> Result<Event, Ending>
     requires act { IsActOf flat.now leaf.0 act }
-    requires sized { length state.marking ≡ length flat.now.initial }
-    requires rows { AreRows flat.now.parts state.rows }
+    requires sized { length state.old.marking ≡ length flat.now.initial }
+    requires rows { AreRows flat.now.parts state.old.rows }
     requires streams { 2 * acts_of flat.now.parts ≤ streams.old.streams }
-    requires number { slice_index (row_at state.rows leaf.0).cases act + 1 < MAX_DRAWS }
-    requires count { state.count + 1 < MAX_COMPLETIONS }
-    ensures answered { (limits : Bounds) → result.0
-        ≡ event_or_ending flat.now (complete_in flat.now (draw_of streams.old.seed) limits state burst
-        leaf.0 act).0 }
-    ensures left { (limits : Bounds) → result.1
-        ≡ (complete_in flat.now (draw_of streams.old.seed) limits state burst leaf.0 act).1 }
+    requires number { slice_index (row_at state.old.rows leaf.0).cases act + 1 < MAX_DRAWS }
+    requires count { state.old.count + 1 < MAX_COMPLETIONS }
+    ensures answered { (limits : Bounds) → result
+        ≡ event_or_ending flat.now (complete_in flat.now (draw_of streams.old.seed) limits
+        state.old burst leaf.0 act).0 }
+    ensures left { (limits : Bounds) → state.new
+        ≡ (complete_in flat.now (draw_of streams.old.seed) limits state.old burst leaf.0 act).1 }
     ensures streams { streams.new ≡ streams.old }
 {
-    let mut rows = state.rows;
-    let (case, marking) = rows.complete(flat, streams, leaf, act, state.marking);
+    let marking = state.marking.as_mut_slice();
+    let case = state
+        .rows
+        .complete(flat, streams, leaf, act, &mut state.room, marking);
     match case {
         Ok(case) => {
-            let event = Event {
+            state.burst = burst;
+            state.last = Some(leaf);
+            state.count += 1;
+            Ok(Event {
                 time: Tick(state.time),
                 act: flat.act_of(leaf, act),
                 case,
-            };
-            let left = State {
-                marking,
-                rows,
-                burst,
-                last: Some(leaf),
-                count: state.count + 1,
-                ..state
-            };
-            (Ok(event), left)
+            })
         }
-        Err(trap) => {
-            let ending = trapped(flat, state.time, leaf, act, trap);
-            let left = State {
-                marking,
-                rows,
-                ..state
-            };
-            (Err(ending), left)
-        }
+        Err(trap) => Err(trapped(flat, state.time, leaf, act, trap)),
     }
 }
 
@@ -136,25 +127,25 @@ pub(crate) fn complete_instant(
     limits: &Limits,
     leaf: LeafId,
     act: u32,
-    state: State,
-) -> (Result<Event, Ending>, State)
+    state: &mut State,
+) -> Result<Event, Ending>
     requires act { IsActOf flat.now leaf.0 act }
-    requires sized { length state.marking ≡ length flat.now.initial }
-    requires rows { AreRows flat.now.parts state.rows }
+    requires sized { length state.old.marking ≡ length flat.now.initial }
+    requires rows { AreRows flat.now.parts state.old.rows }
     requires streams { 2 * acts_of flat.now.parts ≤ streams.old.streams }
-    requires number { slice_index (row_at state.rows leaf.0).cases act + 1 < MAX_DRAWS }
-    requires count { state.count + 1 < MAX_COMPLETIONS }
-    requires burst { state.burst + 1 < MAX_COMPLETIONS }
-    ensures answered { result.0
+    requires number { slice_index (row_at state.old.rows leaf.0).cases act + 1 < MAX_DRAWS }
+    requires count { state.old.count + 1 < MAX_COMPLETIONS }
+    requires burst { state.old.burst + 1 < MAX_COMPLETIONS }
+    ensures answered { result
         ≡ event_or_ending flat.now (instant_in flat.now (draw_of streams.old.seed) (limits_in limits.now)
-        state leaf.0 act).0 }
-    ensures left { result.1
-        ≡ (instant_in flat.now (draw_of streams.old.seed) (limits_in limits.now) state leaf.0
+        state.old leaf.0 act).0 }
+    ensures left { state.new
+        ≡ (instant_in flat.now (draw_of streams.old.seed) (limits_in limits.now) state.old leaf.0
         act).1 }
     ensures streams { streams.new ≡ streams.old }
 {
     match limit_by(limits, state.time, state.burst, state.count) {
-        Some(ending) => (Err(ending), state),
+        Some(ending) => Err(ending),
         None => {
             let burst = state.burst + 1;
             complete(flat, streams, leaf, act, burst, state)
@@ -170,24 +161,24 @@ pub(crate) fn complete_timed(
     limits: &Limits,
     leaf: LeafId,
     act: u32,
-    state: State,
-) -> (Result<Event, Ending>, State)
+    state: &mut State,
+) -> Result<Event, Ending>
     requires act { IsActOf flat.now leaf.0 act }
-    requires sized { length state.marking ≡ length flat.now.initial }
-    requires rows { AreRows flat.now.parts state.rows }
+    requires sized { length state.old.marking ≡ length flat.now.initial }
+    requires rows { AreRows flat.now.parts state.old.rows }
     requires streams { 2 * acts_of flat.now.parts ≤ streams.old.streams }
-    requires number { slice_index (row_at state.rows leaf.0).cases act + 1 < MAX_DRAWS }
-    requires count { state.count + 1 < MAX_COMPLETIONS }
-    ensures answered { result.0
+    requires number { slice_index (row_at state.old.rows leaf.0).cases act + 1 < MAX_DRAWS }
+    requires count { state.old.count + 1 < MAX_COMPLETIONS }
+    ensures answered { result
         ≡ event_or_ending flat.now (law.fire (net_of flat.now (draw_of streams.old.seed)
-        (limits_in limits.now)) state leaf.0 act).0 }
-    ensures left { result.1
-        ≡ (law.fire (net_of flat.now (draw_of streams.old.seed) (limits_in limits.now)) state leaf.0
-        act).1 }
+        (limits_in limits.now)) state.old leaf.0 act).0 }
+    ensures left { state.new
+        ≡ (law.fire (net_of flat.now (draw_of streams.old.seed) (limits_in limits.now)) state.old
+        leaf.0 act).1 }
     ensures streams { streams.new ≡ streams.old }
 {
     match events_left(limits, state.time, state.count) {
-        Some(ending) => (Err(ending), state),
+        Some(ending) => Err(ending),
         None => complete(flat, streams, leaf, act, 0, state),
     }
 }

@@ -1,7 +1,7 @@
 -- What a completion leaves of a marking.
 use Rattle.std.specs.Prelude.{ℕ, List, Result, Ok, Err}
 use Rattle.san_base.specs.declared.ending.Trap.{Trap}
-use Rattle.san_law.specs.Activity.{Effected, completed}
+use Rattle.san_law.specs.Activity.{completed}
 use Rattle.san_law.specs.Net.{Done, Row}
 use Rattle.san_law.specs.Network.{Limits}
 use Rattle.san_law.specs.State.{gather, scatter, slots_of}
@@ -9,11 +9,6 @@ use Rattle.san_net.specs.Laid.{places_of}
 use Rattle.san_net.specs.Leaf.{leaf_of}
 use Rattle.san_net.specs.Network.{Network, net_of}
 use Rattle.san_net.specs.declared.part.Part.{Part}
-
--- the case and the marking with the leaf's new values; a trap leaves the marking as it was
-abbrev pub left_by : List ℕ → List ℕ → Result Effected Trap → Result ℕ Trap × List ℕ
-left_by places m (Ok e) = (Ok e.case, scatter places e.values m)
-left_by places m (Err trap) = (Err trap, m)
 
 -- the case, and the marking and the row that it leaves
 abbrev pub completed_by : Result ℕ Trap → List ℕ → Row → Result (ℕ × List ℕ × Row) Trap

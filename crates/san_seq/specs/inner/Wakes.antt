@@ -73,7 +73,7 @@ abbrev pub EachOrdered : ℕ → List Band → Type 0
 EachOrdered many bands = (b : ℕ) (band : Band) → slice_get bands b ≡ Some band → AreOrdered many band.leaves.items
 
 -- a leaf went behind others, or was the last of them
-pub record Joins (leaf : LeafId) (old new : List LeafId) : Type 0 where
+pub record TakesIn (leaf : LeafId) (old new : List LeafId) : Type 0 where
   pub kept : (k : ℕ) (l : LeafId) → slice_get old k ≡ Some l → slice_get new k ≡ Some l
   pub at : ℕ
   pub there : slice_get new at ≡ Some leaf
@@ -85,18 +85,18 @@ pub record Gains (leaf : LeafId) (old new : List Band) : Type 0 where
   pub ordered : EachOrdered (leaf.0 + 1) old → EachOrdered (leaf.0 + 1) new
 
 -- a leaf joined the bands of its places
-pub record IsNoted (x : Concern) (acts : List Named) (leaf : LeafId) (places : List ℕ) (old new : List (List Band)) : Type 0 where
+pub record IsIndexed (x : Concern) (acts : List Named) (leaf : LeafId) (places : List ℕ) (old new : List (List Band)) : Type 0 where
   pub sized : length new ≡ length old
   pub gains : (q : ℕ) → Gains leaf (bands_at old q) (bands_at new q)
   pub there : (i q : ℕ) → slice_get places i ≡ Some q → EachWeight x acts i (λ w. Stands (bands_at new q) w leaf.0)
 
 -- the first so many leaves stand in the bands of their places, by number, and no others
-pub record IsTable (x : Concern) (n : Network) (many : ℕ) (table : List (List Band)) : Type 0 where
+pub record IsIndex (x : Concern) (n : Network) (many : ℕ) (table : List (List Band)) : Type 0 where
   pub sized : length table ≡ length n.initial
   pub ordered : (q : ℕ) → EachOrdered many (bands_at table q)
   pub there : (j i q : ℕ) (p : Part) → j < many → slice_get n.parts j ≡ Some p → slice_get (places_of p) i ≡ Some q → EachWeight x p.atomic.acts i (λ w. Stands (bands_at table q) w j)
 
 -- all leaves do
 pub record AreWoken (n : Network) (w : Woken) : Type 0 where
-  pub instants : IsTable concern.Instants n (length n.parts) w.instants
-  pub timers : IsTable concern.Timers n (length n.parts) w.timers
+  pub instants : IsIndex concern.Instants n (length n.parts) w.instants
+  pub timers : IsIndex concern.Timers n (length n.parts) w.timers

@@ -1,7 +1,7 @@
 use Rattle.std.proofs.Common.{◌∙◌, ◌≡◌, ℕ, arith, ap, length, map, refl, subst, sym, Some}
 use Rattle.std.proofs.lemmas.List.{length-map}
 use Rattle.san_net.specs.declared.part.Part.{Part}
-use Rattle.san_seq.specs.inner.Wakes.{IsTable}
+use Rattle.san_seq.specs.inner.Wakes.{IsIndex}
 use Rattle.san_seq.proofs.BandLemmas.{table_more}
 use Rattle.san_seq.proofs.KnownLemmas.{places_within}
 use Rattle.san_seq.proofs.bands.table.Goals as goal
@@ -23,4 +23,4 @@ leaves-preserved c =
 pub returns : goal.returns
 returns c =
     let all : c.leaves.j ≡ length c.args.flat.now.parts = omega (arith, c.leaves-test.false, c.leaves.auto.j-end, c.leaves-j-end.ensures) in
-    subst (λ (m : ℕ). IsTable c.args.concern c.args.flat.now m (map (λ x. x.items) c.leaves.table.items)) all c.leaves.invariant
+    subst (λ (m : ℕ). IsIndex c.args.concern c.args.flat.now m (map (λ x. x.items) c.leaves.table.items)) all c.leaves.invariant

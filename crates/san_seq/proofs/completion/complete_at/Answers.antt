@@ -10,7 +10,7 @@ pub complete_leaf-requires-clause-accepted : goal.complete_leaf-requires-clause-
 complete_leaf-requires-clause-accepted c = c.is_network.ensures.network.accepted c.args.leaf.0 c.get.result.now (c.part.ensures ∙ ap (λ (p : Part). Some p) (sym c.get.ensures))
 
 pub complete_leaf-requires-clause-over : goal.complete_leaf-requires-clause-over
-complete_leaf-requires-clause-over c = lies_over c.args.flat.now c.args.leaf.0 c.get.result.now (c.part.ensures ∙ ap (λ (p : Part). Some p) (sym c.get.ensures)) c.args.marking.items c.requires.sized c.is_network.ensures.laid
+complete_leaf-requires-clause-over c = lies_over c.args.flat.now c.args.leaf.0 c.get.result.now (c.part.ensures ∙ ap (λ (p : Part). Some p) (sym c.get.ensures)) c.args.marking.now c.requires.sized c.is_network.ensures.laid
 
 pub complete_leaf-requires-clause-streams : goal.complete_leaf-requires-clause-streams
 complete_leaf-requires-clause-streams c =
@@ -23,4 +23,4 @@ complete_leaf-requires-clause-small c =
 pub returns-clause-done : goal.returns-clause-done
 returns-clause-done c = λ limits.
     c.complete_leaf.ensures.done
-    ∙ done_there c.args.flat.now (draw_of c.args.streams.now.seed) limits c.args.leaf.0 c.args.act c.get.result.now c.args.marking.items c.args.row.now (c.part.ensures ∙ ap (λ (p : Part). Some p) (sym c.get.ensures))
+    ∙ done_there c.args.flat.now (draw_of c.args.streams.now.seed) limits c.args.leaf.0 c.args.act c.get.result.now c.args.marking.now c.args.row.now (c.part.ensures ∙ ap (λ (p : Part). Some p) (sym c.get.ensures))

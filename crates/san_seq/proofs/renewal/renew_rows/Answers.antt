@@ -6,7 +6,7 @@ use Rattle.san_draw.specs.Key.{draw_of}
 use Rattle.san_law.specs.Net.{Row, no_row}
 use Rattle.san_law.specs.Renewal.{renewed_at}
 use Rattle.san_net.specs.Network.{net_of}
-use Rattle.san_seq.specs.inner.Renewals.{AreRenewed, Fault, sooner_fault}
+use Rattle.san_seq.specs.inner.Renewals.{AreRenewed, FirstTrap, sooner_fault}
 use Rattle.san_seq.specs.inner.Rows.{AreDrawn, IsLike, row_at}
 use Rattle.san_seq.proofs.RenewalLemmas.{AreLeft, each_renewed, left_more, not_before, renewed_more, renewed_whole}
 use Rattle.san_seq.proofs.RowLemmas.{drawn_set, like_set, rows_like}
@@ -50,7 +50,7 @@ leaves-preserved c =
           let did =
           c.renew-done.ensures.row limits s clock seen now
           ∙ ap (λ (seed : ℕ). renewed_at (net_of n (draw_of seed) limits) s at r) (ap (λ x. x.seed) c.leaves.invariant.streams) in
-          subst (λ (f : Fault). AreRenewed net s c.args.rows.now c.renew-done.new.self leaves (c.leaves.k + 1) f) (sym c.first_fault-fault.ensures)
+          subst (λ (f : FirstTrap). AreRenewed net s c.args.rows.now c.renew-done.new.self leaves (c.leaves.k + 1) f) (sym c.first_fault-fault.ensures)
           (subst (λ (rs : List Row). AreRenewed net s c.args.rows.now rs leaves (c.leaves.k + 1) (sooner_fault c.leaves.fault (record { 0 = at }) c.renew-done.result)) (sym others)
           (renewed_more net s c.args.rows.now c.leaves.rows leaves c.leaves.k c.leaves.fault (record { 0 = at }) new c.renew-done.result h c.leaves.invariant.sized here
           (λ i e. c.list-leaves.ensures.once i c.leaves.k at e here) left did (c.leaves.invariant.renewed limits s clock seen now)));

@@ -10,5 +10,5 @@ copy_at-requires-clause-at c =
 
 pub returns : goal.returns
 returns c =
-    all_copied c.args.places.now c.list-changed.result.now c.places.k c.places.stable.items c.args.marking.now c.list-changed.ensures c.requires.flags (c.places.invariant.sized ∙ c.requires.stable) c.places-test.false
+    all_copied c.args.places.now c.list-changed.result.now c.places.k c.places.stable c.args.marking.now c.list-changed.ensures c.requires.flags (c.places.invariant.sized ∙ c.requires.stable) c.places-test.false
     c.places.invariant.same c.places.invariant.copied

@@ -5,7 +5,7 @@ use Rattle.san_seq.proofs.stale.catch_up.Given as goal
 
 abbrev pub invariant-places : goal.invariant-places
 invariant-places l = record {
-  sized : length l.stable.items ≡ length l.fn.stable.items;
-  same : HaveSame l.places l.stable.items l.marking;
-  copied : AreCopied l.changed l.k l.stable.items l.marking;
+  sized : length l.stable ≡ length l.fn.stable;
+  same : HaveSame l.places l.stable l.marking;
+  copied : AreCopied l.changed l.k l.stable l.marking;
 }

@@ -16,19 +16,19 @@ returns-in-None-clause-answered c =
     let limits = limits_in c.args.limits.now in
     let none = no_limit n c.state.inside.time _ (sym (c.limit_by.ensures n) ∙ c.in-None.is) in
     c.complete.ensures.answered limits
-    ∙ ap (λ y. event_or_ending n y.0) (instant_is n (draw_of c.args.streams.now.seed) limits _ c.args.state c.args.leaf.0 c.args.act c.state.view_is none)
+    ∙ ap (λ y. event_or_ending n y.0) (instant_is n (draw_of c.args.streams.now.seed) limits _ c.args.state.now c.args.leaf.0 c.args.act c.state.view_is none)
 
 pub returns-in-None-clause-left : goal.returns-in-None-clause-left
 returns-in-None-clause-left c =
     let n = c.args.flat.now in
     let limits = limits_in c.args.limits.now in
     let none = no_limit n c.state.inside.time _ (sym (c.limit_by.ensures n) ∙ c.in-None.is) in
-    c.complete.ensures.left limits ∙ ap (λ y. y.1) (instant_is n (draw_of c.args.streams.now.seed) limits _ c.args.state c.args.leaf.0 c.args.act c.state.view_is none)
+    c.complete.ensures.left limits ∙ ap (λ y. y.1) (instant_is n (draw_of c.args.streams.now.seed) limits _ c.args.state.now c.args.leaf.0 c.args.act c.state.view_is none)
 
 pub returns-in-Some-clause-answered : goal.returns-in-Some-clause-answered
 returns-in-Some-clause-answered c =
     let n = c.args.flat.now in
-    let s = c.args.state in
+    let s = c.args.state.now in
     let limits = limits_in c.args.limits.now in
     let says = c.limit_by.ensures n ∙ ap (λ (z : State). option_map (ending_in n z.time) (law.limit_by limits.burst limits.events z.burst z.count)) c.state.view_is in
     (stopped n s.time c.limit_by.result (law.limit_by limits.burst limits.events s.burst s.count) s (complete_in n (draw_of c.args.streams.now.seed) limits s (s.burst + 1) c.args.leaf.0 c.args.act) c.in-Some.ending refl says c.in-Some.is).answered
@@ -36,7 +36,7 @@ returns-in-Some-clause-answered c =
 pub returns-in-Some-clause-left : goal.returns-in-Some-clause-left
 returns-in-Some-clause-left c =
     let n = c.args.flat.now in
-    let s = c.args.state in
+    let s = c.args.state.now in
     let limits = limits_in c.args.limits.now in
     let says = c.limit_by.ensures n ∙ ap (λ (z : State). option_map (ending_in n z.time) (law.limit_by limits.burst limits.events z.burst z.count)) c.state.view_is in
     (stopped n s.time c.limit_by.result (law.limit_by limits.burst limits.events s.burst s.count) s (complete_in n (draw_of c.args.streams.now.seed) limits s (s.burst + 1) c.args.leaf.0 c.args.act) c.in-Some.ending refl says c.in-Some.is).left

@@ -10,10 +10,10 @@ use Rattle.san_seq.proofs.step.renew.Goals as goal
 pub returns-clause-rows : goal.returns-clause-rows
 returns-clause-rows c = λ bounds.
     let was = ap (λ (x : State). x.rows) c.state.view_is in
-    c.renew_rows-done.ensures.rows bounds c.args.state (sym (ap (λ (x : State). x.time) c.state.view_is)) (sym (ap (λ (x : State). x.stable) c.state.view_is) ∙ sym c.as_slice.ensures.value) (sym (ap (λ (x : State). x.marking) c.state.view_is) ∙ sym c.as_slice-2.ensures.value)
-    ∙ ap (λ (rs : List Row). renewed_from (net_of c.args.flat.now (draw_of c.args.streams.now.seed) bounds) c.args.state 0 rs) was
+    c.renew_rows.ensures.rows bounds c.args.state.now (sym (ap (λ (x : State). x.time) c.state.view_is)) (sym (ap (λ (x : State). x.stable) c.state.view_is) ∙ sym c.as_slice.ensures.value) (sym (ap (λ (x : State). x.marking) c.state.view_is) ∙ sym c.as_slice-2.ensures.value)
+    ∙ ap (λ (rs : List Row). renewed_from (net_of c.args.flat.now (draw_of c.args.streams.now.seed) bounds) c.args.state.now 0 rs) was
 
 pub returns-clause-numbers : goal.returns-clause-numbers
 returns-clause-numbers c =
     let was = ap (λ (x : State). x.rows) c.state.view_is in
-    c.renew_rows-done.ensures.numbers c.args.state.count (subst (λ (rs : List Row). AreDrawn c.args.state.count rs) (sym was) c.requires.numbers)
+    c.renew_rows.ensures.numbers c.args.state.now.count (subst (λ (rs : List Row). AreDrawn c.args.state.now.count rs) (sym was) c.requires.numbers)

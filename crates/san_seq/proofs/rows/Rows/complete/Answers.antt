@@ -21,8 +21,8 @@ pub returns-clause-done : goal.returns-clause-done
 returns-clause-done c = λ limits.
     let row = c.index_mut-row.result.now in
     let h : c.args.leaf.0 < length c.args.self.now = omega (arith, c.requires.leaf, c.requires.rows.each) in
-    let m = c.complete_at.result.1.items in
-    ap (completed_by c.complete_at.result.0 m) (put_there c.self.inside.rows.items c.args.self.now c.args.leaf.0 row c.complete_at.new.row c.index_mut-row.ensures.value c.self.view_is h)
+    let m = c.complete_at.new.marking in
+    ap (completed_by c.complete_at.result m) (put_there c.self.inside.rows.items c.args.self.now c.args.leaf.0 row c.complete_at.new.row c.index_mut-row.ensures.value c.self.view_is h)
     ∙ c.complete_at.ensures.done limits
-    ∙ ap (leaf_left c.args.flat.now (draw_of c.args.streams.now.seed) limits c.args.leaf.0 c.args.act c.args.marking.items)
+    ∙ ap (leaf_left c.args.flat.now (draw_of c.args.streams.now.seed) limits c.args.leaf.0 c.args.act c.args.marking.now)
     (was_there c.self.inside.rows.items c.args.self.now c.args.leaf.0 row row c.index_mut-row.ensures.value c.self.view_is h)

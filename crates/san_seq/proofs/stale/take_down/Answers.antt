@@ -3,7 +3,7 @@ use Rattle.std.proofs.lemmas.List.{length-set}
 use Rattle.std.proofs.lemmas.Option.{slice_get-get_or, slice_get_within}
 use Rattle.san_seq.specs.inner.Flagged.{IsListed}
 use Rattle.san_seq.proofs.FlaggedLemmas.{front_sized, left_first, left_less, none_left, none_listed}
-use Rattle.san_seq.proofs.flagged.take_down.Goals as goal
+use Rattle.san_seq.proofs.stale.take_down.Goals as goal
 
 pub slice_bounds-up-end : goal.slice_bounds-up-end
 slice_bounds-up-end c = front_sized c.args.flags.now c.args.list.now c.args.count c.requires

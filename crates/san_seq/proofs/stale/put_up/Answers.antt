@@ -2,7 +2,7 @@ use Rattle.std.proofs.Common.{◌∙◌, ap, sym, subst, Bool, false, true, Some
 use Rattle.std.proofs.lemmas.Option.{slice_get-get_or}
 use Rattle.san_seq.specs.inner.Flagged.{IsListed}
 use Rattle.san_seq.proofs.FlaggedLemmas.{listed_more, room}
-use Rattle.san_seq.proofs.flagged.put_up.Goals as goal
+use Rattle.san_seq.proofs.stale.put_up.Goals as goal
 
 pub push-requires : goal.push-requires
 push-requires c =

@@ -1,6 +1,6 @@
 use Rattle.std.proofs.Common.{◌≡◌, length}
 use Rattle.san_seq.proofs.FlaggedLemmas.{AreLeft}
-use Rattle.san_seq.proofs.flagged.take_down.Given as goal
+use Rattle.san_seq.proofs.stale.take_down.Given as goal
 
 abbrev pub invariant-list : goal.invariant-list
 invariant-list l = record {

@@ -2,7 +2,7 @@ use Rattle.std.proofs.Common.{◌∙◌, sym, subst, ap, length, Bool, List}
 use Rattle.std.proofs.lemmas.List.{length-replicate}
 use Rattle.san_seq.specs.inner.Flagged.{IsListed}
 use Rattle.san_seq.proofs.FlaggedLemmas.{none_listed}
-use Rattle.san_seq.proofs.flagged.Flagged.open.Goals as goal
+use Rattle.san_seq.proofs.stale.Flagged.open.Goals as goal
 
 pub invariant_of-result : goal.invariant_of-result
 invariant_of-result c =

@@ -1,6 +1,6 @@
 use Rattle.std.proofs.Common.{◌∙◌, ap, sym, take, length, List, ℕ}
 use Rattle.san_seq.proofs.FlaggedLemmas.{front_sized}
-use Rattle.san_seq.proofs.flagged.Flagged.list.Goals as goal
+use Rattle.san_seq.proofs.stale.Flagged.list.Goals as goal
 
 pub slice_bounds-result-end : goal.slice_bounds-result-end
 slice_bounds-result-end c =
