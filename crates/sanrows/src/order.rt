@@ -24,12 +24,7 @@ fn ends_in(flat: &Flat, ending: Ending) -> bool
 }
 
 /// Adds the lines of the completions; false at one that isn't of the network.
-fn put_events(
-    alloc: Global,
-    page: &mut Vec<u8>,
-    flat: &Flat,
-    ran: &Ran,
-) -> Result<bool, NoMemory> {
+fn put_events(alloc: Global, page: &mut Vec<u8>, flat: &Flat, ran: &Ran) -> Result<bool, NoMemory> {
     let mut number = 0u64;
     for event in &ran.events {
         if event.act.0 >= flat.acts() {
@@ -42,12 +37,7 @@ fn put_events(
 }
 
 /// Adds the lines of the rewards.
-fn put_rewards(
-    alloc: Global,
-    page: &mut Vec<u8>,
-    flat: &Flat,
-    ran: &Ran,
-) -> Result<(), NoMemory>
+fn put_rewards(alloc: Global, page: &mut Vec<u8>, flat: &Flat, ran: &Ran) -> Result<(), NoMemory>
     requires { length ran.tally.spans ≡ length flat.now.rewards }
 {
     flat.is_network();
