@@ -1,0 +1,2 @@
+pub mod Speculating
+pub mod CoreCalls
