@@ -4,3 +4,10 @@ pub mod Runs
 pub mod Stepping
 pub mod Seen
 pub mod Cuts
+pub mod Nexts
+pub mod Heads
+pub mod Commits
+pub mod Committings
+pub mod Advancing
+pub mod Redos
+pub mod Counters

@@ -1,5 +1,5 @@
 -- What a core keeps by a step, or by several.
-use Rattle.std.proofs.Common.{ℕ, ◌≡◌, ◌∙◌, ap, sym, subst, List, [], ◌∷◌, ◌++◌, Some}
+use Rattle.std.proofs.Common.{ℕ, ◌+◌, ◌^◌, ◌<◌, ◌≤◌, ◌≡◌, ◌∙◌, ap, arith, sym, subst, List, [], ◌∷◌, ◌++◌, length, map, Option, Some}
 use Rattle.san_base.specs.declared.limits.Limits.{Limits}
 use Rattle.san_book.specs.Bounds.{IsBrief, ReadFits}
 use Rattle.san_book.specs.Cores as book
@@ -12,8 +12,15 @@ use Rattle.san_core.specs.Redone.{IsSameRun}
 use Rattle.san_law.specs.Core as law
 use Rattle.san_net.specs.Network.{Network}
 use Rattle.san_decide.specs.Booked.{book_of}
-use Rattle.san_speculation.specs.Speculating.{CoreValue, IsReplayed, book_in}
-use Rattle.san_speculation.proofs.Keeping.{keeps_the_law}
+use Rattle.san_speculation.specs.Speculating.{CoreValue, IsReplayed, book_in, core_by, step_in}
+use Rattle.std.specs.Prelude.{slice_index}
+use Rattle.std.proofs.lemmas.List.{length-map}
+use Rattle.san_ahead.specs.Ahead.{AheadValue}
+use Rattle.san_base.specs.declared.numbers.LeafId.{LeafId}
+use Rattle.san_book.specs.declared.limits.TheConstants.{MAX_JOURNAL}
+use Rattle.san_speculation.specs.declared.step.Step.{Step}
+use Rattle.san_speculation.proofs.Counters.{counters_are_few, opened_few}
+use Rattle.san_speculation.proofs.Keeping.{journal_is_few, keeps_the_law}
 use Rattle.san_speculation.proofs.Runs.{one_fits, replayed_more, replayed_one}
 use Rattle.san_speculation.proofs.Speculated.{IsRun, has_values, is_lawful}
 
@@ -56,3 +63,14 @@ pub step_keeps : (old new : CoreValue) → FollowsRun old.machine → IsRun old.
 step_keeps old new follows run r s fits happens same =
     let m = book_in old.machine in
     run_keeps old new follows run r (s ∷ []) (one_fits m old.machine.limits old.book s fits) (replayed_one m old.machine.limits old.book new.book s happens) same
+
+-- a leaf's next number is far from the greatest
+pub counter_fits : (m : MachineValue) (a : AheadValue) (os : List (Option LeafId)) (js : List Step) (r : ℕ) (v : CoreValue) → core_by m a os js r ≡ v → FollowsRun v.machine → IsRun v.machine.network → IsReplayed v → (j : ℕ) → slice_index a.counters j + 1 < 2 ^ 64
+counter_fits m a os js r v is follows run replayed j =
+    let few : slice_index v.book.counters j ≤ length v.book.journal =
+    counters_are_few (book_in v.machine) v.machine.limits v.book.journal (opened (book_in v.machine) replayed.workers v.machine.start.core) v.book (opened_few (book_in v.machine) replayed.workers v.machine.start.core) replayed.replays j in
+    let counters : slice_index a.counters j ≡ slice_index v.book.counters j = ap (λ (x : CoreValue). slice_index x.book.counters j) is in
+    let steps : map step_in js ≡ v.book.journal = ap (λ (x : CoreValue). x.book.journal) is in
+    let long : length js ≤ MAX_JOURNAL = journal_is_few v follows run replayed js steps in
+    let same : length v.book.journal ≡ length js = ap length (sym steps) ∙ length-map js step_in in
+    omega (arith, few, counters, long, same)

@@ -1,2 +1,3 @@
 pub mod Speculating
 pub mod CoreCalls
+pub mod inner
