@@ -1,12 +1,12 @@
 -- The pieces of a chain, one after another.
-use Rattle.std.proofs.Common.{ℕ, zero, suc, ◌+◌, ◌<◌, ◌≡◌, ◌∙◌, ap, sym, refl, subst, arith, List, [], ◌∷◌, length, map, drop, Bool, true, false, cond}
-use Rattle.std.specs.Prelude.{slice_index_or, slice_set}
-use Rattle.std.proofs.lemmas.List.{at_drop_more, length-map, length-set}
+use Rattle.std.proofs.Common.{ℕ, zero, suc, ◌+◌, ◌<◌, ◌≡◌, ◌∙◌, ap, sym, subst, arith, List, [], ◌∷◌, length, map, drop, Bool, cond}
+use Rattle.std.specs.Prelude.{slice_index_or}
+use Rattle.std.proofs.lemmas.List.{at_drop_more, length-map}
 use Rattle.san_line.specs.Lines.{LineValue}
 use Rattle.san_leaf.specs.Pieces.{PieceValue}
 use Rattle.san_book.specs.Chains.{AllFit, current, is_current, without_pieces}
 use Rattle.san_log.specs.Logs.{Entry}
-use Rattle.san_book.specs.Lines.{AreWrites, Line, agrees, each, line_of, seen_at, withdraw}
+use Rattle.san_book.specs.Lines.{AreWrites, Line, agrees, each, seen_at, withdraw}
 use Rattle.san_decide.specs.Booked.{of_piece}
 use Rattle.san_ahead.specs.Aheads.{line_in}
 use Rattle.san_book.proofs.Each.{length_each}

@@ -1,1 +1,2 @@
 pub mod Aheads
+pub mod Ahead

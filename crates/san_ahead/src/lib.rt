@@ -2,8 +2,10 @@
 //! of the leaves.
 #![tactic(auto)]
 
+mod ahead;
 mod chains;
 mod lines;
 
+pub use ahead::Ahead;
 pub use chains::{current_pieces, cut_chain, push_piece};
 pub use lines::{commit_writes, put_writes, reserve_writes, withdraw_writes};

@@ -1,5 +1,5 @@
 -- A machine that takes the needed piece follows the run.
-use Rattle.std.proofs.Common.{ℕ, zero, suc, ◌+◌, ◌-◌, ◌*◌, ◌<◌, ◌≤◌, ◌≡◌, ◌≢◌, ◌∙◌, ap, sym, subst, refl, List, [], ◌∷◌, ◌++◌, length, map, Option, Some, None, arith}
+use Rattle.std.proofs.Common.{ℕ, suc, ◌+◌, ◌-◌, ◌*◌, ◌<◌, ◌≤◌, ◌≡◌, ◌≢◌, ◌∙◌, ap, sym, subst, refl, List, ◌++◌, length, map, Option, Some, None, arith}
 use Rattle.std.specs.Prelude.{slice_get}
 use Rattle.std.proofs.lemmas.List.{append-nil, length-map, map-append}
 use Rattle.std.proofs.lemmas.Nat.{mul-le}
@@ -33,7 +33,6 @@ use Rattle.san_leaf.specs.States.{kind_in}
 use Rattle.san_net.specs.Laid.{IsNetwork}
 use Rattle.san_net.specs.Leaf as net
 use Rattle.san_net.specs.Network.{Network, net_of, network_in}
-use Rattle.san_net.specs.declared.part.Part.{Part}
 use Rattle.san_net.specs.Runs.{event_in, limits_in, net_at}
 use Rattle.san_core.specs.Committed.{Belongs, CommittedValue, StartsRun, quiet, with_taken}
 use Rattle.san_core.specs.Machines.{FollowsRun, IsNeeded, MachineValue, after_taking, core_in, core_taken, machine_by, net_in, opened}
@@ -140,7 +139,7 @@ module _ (m : MachineValue) (run : FollowsRun m) (network : IsNetwork m.network)
     made_is : piece_of net_here j kind p.time p.base h.shared ≡ p.outcome
     made_is = subst (λ (seed : ℕ). piece_of (net_at m.network seed m.limits) j kind p.time p.base h.shared ≡ p.outcome) needed.seed (piece_is m.network (limits_in m.limits) j p h.shared sound needed.part needed.log)
 
-    at_leaf : p.outcome ≡ piece_of net_here j kind p.time (leaf_of h j) h.shared
+    pub at_leaf : p.outcome ≡ piece_of net_here j kind p.time (leaf_of h j) h.shared
     at_leaf = sym made_is ∙ ap (λ (l : LeafState). piece_of net_here j kind p.time l h.shared) (sym needed.base)
 
     advances : d ≡ advance net_here h
@@ -182,6 +181,15 @@ module _ (m : MachineValue) (run : FollowsRun m) (network : IsNetwork m.network)
 
     pub falls : left net_here (core_in (after_taking m p)) < left net_here c
     falls = less
+
+    -- the core of the law takes the piece as the held part does
+    pub core_then : core_in (after_taking m p) ≡ taken net_here c j kind p.time p.outcome
+    unfolding need_of advance after_pieces
+    core_then =
+        one_more net_here m.taken m.start.core
+        ∙ (ap (advance_by net_here c) (goes_on needed.going)
+        ∙ (ap (take_need net_here c) need_core
+        ∙ ap (taken net_here c j kind p.time) (sym (at_leaf ∙ ap (λ (x : Core). piece_of net_here j kind p.time (leaf_of x j) x.shared) run.held))))
 
     pub can : Fits (claim_of p) → CanTake net_here m.network m.held p
     can fits =

@@ -23,7 +23,8 @@ use Rattle.san_turn.specs.declared.need.Need as turn
 use Rattle.san_turn.specs.declared.need.Need.TheVariants as need
 use Rattle.san_core.specs.Machines.{FollowsRun, IsNeeded, MachineValue}
 use Rattle.san_core.specs.declared.admission.Taking.{Taking}
-use Rattle.san_core.specs.inner.Needed.{IsMadeFrom, IsNeed, NeedBy, claim_from, need_given}
+use Rattle.san_core.specs.Needed.{IsNeed, NeedBy}
+use Rattle.san_core.specs.inner.Needed.{IsMadeFrom, claim_from, need_given}
 use Rattle.san_net.proofs.InitialLemmas.{initial_small}
 use Rattle.san_core.proofs.Making as making
 use Rattle.san_core.proofs.Needing as needing

@@ -27,7 +27,8 @@ use Rattle.san_net.specs.declared.part.Part.{Part}
 use Rattle.san_net.specs.Runs.{limits_in}
 use Rattle.san_core.specs.Machines.{FollowsRun, IsNeeded, MachineValue, core_in, net_in}
 use Rattle.san_core.specs.declared.admission.Taking.{Taking}
-use Rattle.san_core.specs.inner.Needed.{IsMadeFrom, IsNeed, NumbersFrom, claim_from}
+use Rattle.san_core.specs.Needed.{IsNeed, NumbersFrom}
+use Rattle.san_core.specs.inner.Needed.{IsMadeFrom, claim_from}
 use Rattle.san_core.proofs.Bounding.{networks_are_bounded}
 use Rattle.san_core.proofs.Fitting as fit
 use Rattle.san_core.proofs.Following as follow

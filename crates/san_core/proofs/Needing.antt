@@ -1,5 +1,5 @@
 -- What a machine needs by its order's answer, and what the run needs then.
-use Rattle.std.proofs.Common.{ℕ, zero, suc, ◌-◌, ◌<◌, ◌≡◌, ◌∙◌, ap, sym, refl, subst, List, [], ◌∷◌, length, map, Option, Some, None, arith}
+use Rattle.std.proofs.Common.{ℕ, ◌-◌, ◌<◌, ◌≡◌, ◌∙◌, ap, sym, refl, subst, List, length, map, Option, Some, None, arith}
 use Rattle.std.specs.Prelude.{slice_get, slice_index}
 use Rattle.san_base.specs.declared.piece.Kind.{Kind}
 use Rattle.san_base.specs.declared.piece.Kind.TheVariants as kind
@@ -17,7 +17,8 @@ use Rattle.san_turn.specs.declared.need.Need as turn
 use Rattle.san_turn.specs.declared.need.Need.TheVariants as need
 use Rattle.san_core.specs.Machines.{FollowsRun, MachineValue, core_in, net_in}
 use Rattle.san_core.specs.declared.admission.Taking.{Taking}
-use Rattle.san_core.specs.inner.Needed.{IsNeed, NeedBy, NumbersFrom, need_given}
+use Rattle.san_core.specs.Needed.{IsNeed, NeedBy, NumbersFrom}
+use Rattle.san_core.specs.inner.Needed.{need_given}
 use Rattle.san_core.proofs.Needs.{GivenIs, NeedIs, given_is}
 use Rattle.san_core.proofs.TakePieces.{first_at}
 use Rattle.san_net.proofs.PartLemmas.{part_there}

@@ -18,15 +18,12 @@ use Rattle.san_law.specs.State.{blank_row, blank_rows, gather}
 use Rattle.san_law.proofs.AnyRates.{opening_is_start}
 use Rattle.san_law.proofs.Places.{own_is}
 use Rattle.san_leaf.specs.Pieces.{opened_state, slots_in}
-use Rattle.san_net.specs.Instants.{Named}
 use Rattle.san_net.specs.Laid.{IsNetwork, place_of}
-use Rattle.san_net.specs.Leaf.{activities_from, leaf_of, slot_in}
+use Rattle.san_net.specs.Leaf.{leaf_of, slot_in}
 use Rattle.san_net.specs.Network.{Network, net_of, span_in}
-use Rattle.san_net.specs.declared.atomic.ImpulseTerm.{ImpulseTerm}
 use Rattle.san_net.specs.declared.part.Part.{Part}
 use Rattle.san_net.specs.declared.part.Reward.{Reward}
 use Rattle.san_net.specs.declared.part.Slot as code
-use Rattle.san_net.specs.declared.part.Slot.TheVariants as slot
 use Rattle.san_reward.specs.Running as tally
 use Rattle.san_reward.specs.Running.{Running, no_rates}
 use Rattle.san_reward.proofs.Sameness.{opened_of}

@@ -13,7 +13,7 @@ use Rattle.san_core.specs.Machines.{FollowsRun, IsNeeded, MachineValue, after_ta
 use Rattle.san_leaf.specs.States.{kind_in}
 use Rattle.san_core.specs.Nets.{outcome_in}
 use Rattle.san_core.specs.declared.admission.Taking.{Taking}
-use Rattle.san_core.specs.inner.Needed.{IsNeed}
+use Rattle.san_core.specs.Needed.{IsNeed}
 use Rattle.san_core.proofs.Needing.{needs_next}
 use Rattle.san_core.specs.Redone.{IsSameRun, RedoneBy, TakesNext}
 use Rattle.san_core.specs.declared.redoing.Redoing.{Redoing}

@@ -5,25 +5,20 @@ use Rattle.std.proofs.lemmas.Bool.{cases_eq}
 use Rattle.std.proofs.lemmas.List.{get_or-set_same, get_or-set_other, length-set}
 use Rattle.std.proofs.lemmas.Option.{slice_get_within}
 use Rattle.san_base.specs.declared.ending.Trap.{Trap}
-use Rattle.san_base.specs.declared.limits.TheConstants.{MAX_TOKENS}
 use Rattle.san_expr.specs.Concerns.{IsMarking}
 use Rattle.san_law.specs.Activity as leaf
 use Rattle.san_law.specs.Net.{Done, Faulty, Fresh, Local, Net, Renewing, Row, least_timer, no_row, without_timer}
 use Rattle.san_law.specs.Network.{Limits, no_part}
 use Rattle.san_law.specs.Next.{Completes, Next, Stable, TrapsAt, next_instant}
 use Rattle.san_law.specs.Renewal.{AllFresh, Due, FaultAt, Renewal, least_from, renewed_at, renewed_from, renewed_then}
-use Rattle.san_law.specs.State.{State, gather, index_of, local_of, row_of, scatter, scatter_from, slots_of, taken_from}
+use Rattle.san_law.specs.State.{State, gather, local_of, row_of, slots_of}
 use Rattle.san_law.specs.Step.{Ending, Event, Happened, Over, Stepped, at_due, at_next, at_rest, complete, count_limit, fire, fired, limit_at, step, unless_over, with_local}
 use Rattle.san_law.specs.Trajectory.{Runs}
-use Rattle.san_net.specs.Completion.{completion_of}
-use Rattle.san_net.specs.Instants.{Named}
 use Rattle.san_net.specs.Laid.{EachPart}
-use Rattle.san_net.specs.Leaf.{activities_from, activity_in, effected_by, leaf_of}
+use Rattle.san_net.specs.Leaf.{leaf_of}
 use Rattle.san_net.specs.Network.{Network, net_of}
-use Rattle.san_net.specs.declared.activity.Activity.{Activity}
-use Rattle.san_net.specs.declared.atomic.ImpulseTerm.{ImpulseTerm}
 use Rattle.san_net.specs.declared.part.Part.{Part}
-use Rattle.san_net.proofs.SmallLemmas.{KeepsSmall, KeepsValues, activities_small, gather_small, leaves_small, scatter_small, scattered_small}
+use Rattle.san_net.proofs.SmallLemmas.{KeepsValues, gather_small, leaves_small, scattered_small}
 use Rattle.san_core.proofs.Clocking.{RowFits, counted_fits, dropped_fits, renewed_fits, row_later}
 
 -- what a completion leaves

@@ -1,5 +1,5 @@
 -- The committed part's steps make of it what the law makes of the core.
-use Rattle.std.proofs.Common.{ℕ, suc, ◌+◌, ◌≤◌, ◌≡◌, ◌∙◌, ap, sym, refl, List, [], ◌∷◌, length, map, Option, Some, None, arith}
+use Rattle.std.proofs.Common.{ℕ, ◌+◌, ◌≤◌, ◌≡◌, ◌∙◌, ap, sym, refl, List, [], length, map, Option, Some, None, arith}
 use Rattle.std.specs.Prelude.{take, slice_set}
 use Rattle.std.proofs.lemmas.List.{length-map, length-take-le}
 use Rattle.san_base.specs.declared.numbers.ActId.{ActId}
@@ -15,7 +15,6 @@ use Rattle.san_law.specs.Order.{order_after, order_renewed}
 use Rattle.san_law.specs.Piece as law
 use Rattle.san_law.specs.Step.{Ending, Event}
 use Rattle.san_law.specs.Tally.{Tally}
-use Rattle.san_leaf.specs.Events.{completions_from}
 use Rattle.san_leaf.specs.Outcomes.{act_in, outcome_in}
 use Rattle.san_leaf.specs.States.{kind_in}
 use Rattle.san_leaf.specs.declared.outcome.Outcome.{Outcome}

@@ -15,11 +15,11 @@ use san_leaf::Fault;
 
 /// Whose piece is taken: its leaf, the number of the leaf's first activity, the kind and the time.
 #[derive(Clone, Copy, Debug, PartialEq, Eq)]
-pub(crate) struct Taking {
-    pub(crate) leaf: LeafId,
-    pub(crate) first: ActId,
-    pub(crate) kind: Kind,
-    pub(crate) time: Tick,
+pub struct Taking {
+    pub leaf: LeafId,
+    pub first: ActId,
+    pub kind: Kind,
+    pub time: Tick,
 }
 
 /// How many completions the limits let through, and what stops the core, if anything does.

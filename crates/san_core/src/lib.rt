@@ -12,12 +12,14 @@ mod needed;
 mod news;
 mod order;
 mod over;
+mod readers;
 mod redoing;
 mod rest;
 mod start;
 mod taking;
 mod writing;
 
+pub use admission::Taking;
 pub use machine::Machine;
 pub use order::{Ran, run_order};
 pub use redoing::Redoing;

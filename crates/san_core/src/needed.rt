@@ -4,7 +4,7 @@ ghost use Rattle.std.specs.Prelude.{◌≡◌, ◌<◌, IfOk, Some, length, slic
 ghost use Rattle.san_net.specs.declared.part.Part.{Part};
 ghost use Rattle.san_core.specs.Machines.{IsNeeded};
 ghost use Rattle.san_core.specs.Redone.{RedoneBy};
-ghost use Rattle.san_core.specs.inner.Needed.{IsNeed, NeedBy};
+ghost use Rattle.san_core.specs.Needed.{IsNeed, NeedBy};
 
 use crate::admission::Taking;
 use crate::machine::Machine;
@@ -31,7 +31,7 @@ impl Machine {
     }
 
     /// Whose piece is needed next; none where the machine has ended.
-    fn needed(&self) -> Option<Taking>
+    pub fn needed(&self) -> Option<Taking>
         ensures { NeedBy self.now result }
     {
         self.flat.get().is_network();
@@ -44,7 +44,7 @@ impl Machine {
     }
 
     /// The needed piece, made from the committed values.
-    fn make(&mut self, alloc: Global, taking: Taking) -> Result<Piece, NoMemory>
+    pub fn make(&mut self, alloc: Global, taking: Taking) -> Result<Piece, NoMemory>
         requires { IsNeed self.old taking }
         ensures made { IfOk result (IsNeeded self.old) }
         ensures same { self.new ≡ self.old }

@@ -1,5 +1,5 @@
 -- The cells that are looked at decide completions, and what stands first.
-use Rattle.std.proofs.Common.{ℕ, zero, suc, pos, Bool, true, false, not, Result, Ok, Err, List, [], ◌∷◌, Option, Some, None, ◌+ℤ◌, ◌-ℤ◌}
+use Rattle.std.proofs.Common.{ℕ, pos, Bool, true, false, not, Result, Ok, Err, List, [], ◌∷◌, Option, Some, None, ◌+ℤ◌, ◌-ℤ◌}
 use Rattle.std.specs.Prelude.{int_lt, slice_get}
 use Rattle.san_base.specs.declared.ending.Trap.{Trap}
 use Rattle.san_expr.specs.Effect.{assign_at}
@@ -7,7 +7,7 @@ use Rattle.san_expr.specs.Meaning.{settled, then_do, value_at}
 use Rattle.san_expr.specs.Value.{is_zero, value_of}
 use Rattle.san_net.specs.Choice.{all_natural, case_of, chosen, natural, weight_of, weights_of}
 use Rattle.san_net.specs.Completion.{case_outputs, completion_of, function_of, inputs_of, output_of, outputs_by, outputs_of}
-use Rattle.san_net.specs.Enabled.{all_hold, and_then, enabled_of, predicate_of}
+use Rattle.san_net.specs.Enabled.{all_hold, and_then, predicate_of}
 use Rattle.san_net.specs.First.{attempt, enabled_by, first_among, first_of, found_or}
 use Rattle.san_net.specs.Instants.{Named}
 use Rattle.san_net.specs.declared.activity.Activity.{Activity}

@@ -4,10 +4,10 @@ use Rattle.std.specs.Prelude.{slice_get, slice_index}
 use Rattle.san_base.specs.declared.ending.Trap.{Trap}
 use Rattle.san_base.specs.declared.ending.Trap.TheVariants.{Arith}
 use Rattle.san_base.specs.Rated.{rated_by}
-use Rattle.san_expr.specs.Meaning.{Meaning, settled, then_do}
+use Rattle.san_expr.specs.Meaning.{Meaning, settled}
 use Rattle.san_expr.specs.Value.{value_of}
 use Rattle.san_law.specs.Activity.{case_stream}
-use Rattle.san_law.specs.Block.{Completion, FailsDone, FailsTest, More, Rests}
+use Rattle.san_law.specs.Block.{FailsDone, FailsTest, More, Rests}
 use Rattle.san_law.specs.Net.{Impulse}
 use Rattle.san_net.specs.First.{attempt, first_of}
 use Rattle.san_net.specs.Instants.{Named}
@@ -16,7 +16,7 @@ use Rattle.san_net.specs.declared.atomic.ImpulseTerm.{ImpulseTerm}
 use Rattle.san_net.specs.declared.first.FirstInstant.{FirstInstant}
 use Rattle.san_net.specs.declared.first.FirstInstant.TheVariants as instant
 use Rattle.san_net.specs.declared.part.Part.{Part}
-use Rattle.san_leaf.specs.Blocks.{Made, after_done, after_found, after_impulses, and_impulses, block_of, completed_by, counted, done_of, fired_of, impulse_of, impulses_by, impulses_of, made_before, made_of, none_made, picked_of, turn_of}
+use Rattle.san_leaf.specs.Blocks.{Made, after_done, after_found, after_impulses, and_impulses, block_of, completed_by, counted, done_of, impulse_of, impulses_by, impulses_of, made_before, made_of, none_made, picked_of, turn_of}
 use Rattle.san_decide.specs.Decided.{Decides}
 use Rattle.san_decide.proofs.Composing.{decides_attempt, decides_back, decides_settled, decides_then}
 use Rattle.san_decide.proofs.Evaluations.{value_decides}

@@ -1,9 +1,8 @@
 -- The committed part of a run is as the book asks.
-use Rattle.std.proofs.Common.{ℕ, zero, suc, ◌+◌, ◌-◌, ◌<◌, ◌≡◌, ◌⊎◌, ◌∙◌, inl, inr, ap, sym, refl, subst, arith, Bool, true, false, nat_eq, ◌&&◌, List, [], ◌∷◌, length, map, Option, Some, None}
+use Rattle.std.proofs.Common.{ℕ, zero, suc, ◌+◌, ◌-◌, ◌≡◌, ◌⊎◌, ◌∙◌, inl, inr, ap, sym, refl, subst, arith, Bool, true, false, nat_eq, List, [], ◌∷◌, length, map, Option, Some, None}
 use Rattle.std.specs.Prelude.{if◌then◌else◌, slice_get, slice_index, slice_index_or}
-use Rattle.std.proofs.lemmas.Bool.{eq-eqb, eqb-true, true≢false}
 use Rattle.san_base.proofs.Bools.{and_true, both_true}
-use Rattle.san_base.proofs.NumberTests.{number_itself, number_turned, same_number}
+use Rattle.san_base.proofs.NumberTests.{number_itself, same_number}
 use Rattle.san_base.specs.declared.limits.Limits.{Limits}
 use Rattle.san_draw.specs.Key.{draw_of}
 use Rattle.san_log.specs.Logs.{Entry, find, found_by}
@@ -50,7 +49,7 @@ use Rattle.san_law.proofs.Rest.{none_more}
 use Rattle.san_net.proofs.PartLemmas.{leaf_there}
 
 -- logs, as pairs and as entries
-pairs_back : (xs : List (ℕ × ℕ)) → map pair_in (map entry_of xs) ≡ xs
+pub pairs_back : (xs : List (ℕ × ℕ)) → map pair_in (map entry_of xs) ≡ xs
 pairs_back [] = refl
 pairs_back (x ∷ xs) = ap (λ (ys : List (ℕ × ℕ)). x ∷ ys) (pairs_back xs)
 
@@ -58,7 +57,7 @@ pub entries_back : (log : List Entry) → map entry_of (map pair_in log) ≡ log
 entries_back [] = refl
 entries_back (e ∷ log) = ap (λ (es : List Entry). e ∷ es) (entries_back log)
 
-pairs_agree : (log : List Entry) (shared : List ℕ) → agrees (slice_get shared) log ≡ true → AgreesWith (map pair_in log) shared
+pub pairs_agree : (log : List Entry) (shared : List ℕ) → agrees (slice_get shared) log ≡ true → AgreesWith (map pair_in log) shared
 pairs_agree [] shared h = tt
 pairs_agree (e ∷ log) shared h =
     let b = both_true (is_value e.1 (slice_get shared e.0.0)) (agrees (slice_get shared) log) h in
@@ -120,7 +119,7 @@ reads_tell n others ss vs looks k a d =
     value_from 0 n q log (shared_below n others ss q a h) ∙ ap (λ (i : ℕ). or_zero (find i log)) (none_more q) ∙ ap or_zero e)
 
 -- kinds, there and back
-kind_back : (first : ℕ) (kind : Kind) → kind_in first (named_in first kind) ≡ kind
+pub kind_back : (first : ℕ) (kind : Kind) → kind_in first (named_in first kind) ≡ kind
 kind_back first (kinds.Fire k) = ap kinds.Fire (back first k)
   where
     back : (a k : ℕ) → (a + k) - a ≡ k
@@ -144,7 +143,7 @@ nothing_read : (seed : ℕ) (kind : Kind) (base : LeafState) (shared other : Lis
 nothing_read seed kind base shared other = refl
 
 -- what is made where a test holds
-made_is : (b : Bool) (x p : PieceValue) → when b (Some x) ≡ Some p → (b ≡ true) × (x ≡ p)
+pub made_is : (b : Bool) (x p : PieceValue) → when b (Some x) ≡ Some p → (b ≡ true) × (x ≡ p)
 made_is true x p e = (refl, cc)
 made_is false x p e = absurd cc
 

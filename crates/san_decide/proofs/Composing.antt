@@ -1,12 +1,12 @@
 -- How evaluations that are decided by what they look at go on.
-use Rattle.std.proofs.Common.{ℕ, zero, suc, ◌≡◌, ◌∙◌, ap, sym, refl, subst, arith, Bool, true, false, not, ◌&&◌, ◌||◌, IsTrue, nat_eq, Result, Ok, Err, pos, List, [], ◌∷◌, length}
+use Rattle.std.proofs.Common.{ℕ, zero, suc, ◌≡◌, ◌∙◌, ap, sym, refl, subst, arith, Bool, true, false, not, ◌&&◌, ◌||◌, IsTrue, Result, Ok, Err, pos, List, [], ◌∷◌, length}
 use Rattle.std.specs.Prelude.{slice_index, slice_set}
 use Rattle.std.proofs.lemmas.Bool.{eq-eqb}
 use Rattle.san_base.proofs.Bools.{or_none}
 use Rattle.san_base.proofs.NumberTests.{same_number, number_itself}
 use Rattle.san_base.specs.declared.ending.Trap.{Trap}
 use Rattle.san_expr.specs.Concerns.{AreEqualOn}
-use Rattle.san_expr.specs.Meaning.{Evaluation, Meaning, settled, value_at, put_at, go_on, then_do}
+use Rattle.san_expr.specs.Meaning.{Meaning, settled, value_at, put_at, go_on, then_do}
 use Rattle.san_net.specs.First.{attempt}
 use Rattle.san_leaf.specs.Blocks.{back_by, or_back}
 use Rattle.san_decide.specs.Decided.{Decides, HaveOneAnswer}

@@ -1,16 +1,14 @@
 -- The cells that are looked at decide expressions and statements.
-use Rattle.std.proofs.Common.{ℕ, ◌≡◌, ◌∙◌, ap, sym, refl, subst, Bool, true, false, not, cond, nat_le, Ok, Err, ℤ, pos, negsuc, List, [], ◌∷◌, map}
+use Rattle.std.proofs.Common.{ℕ, Bool, true, false, not, cond, nat_le, Ok, Err, ℤ, pos, negsuc, List, [], ◌∷◌, map}
 use Rattle.san_base.specs.declared.limits.TheConstants.{MAX_TOKENS}
 use Rattle.san_base.specs.declared.op.Op.{Op}
 use Rattle.san_base.specs.declared.ending.Trap.TheVariants.{Marking}
 use Rattle.san_expr.specs.declared.expr.Expr.{Expr}
 use Rattle.san_expr.specs.declared.expr.Expr.TheOpen.{Expr-F}
-use Rattle.san_expr.specs.declared.expr.Expr.TheViews.{roll-Expr}
-use Rattle.san_expr.specs.declared.expr.Expr.TheFolds.{fold-roll-Expr, map-Expr, ind-Expr}
+use Rattle.san_expr.specs.declared.expr.Expr.TheFolds.{map-Expr}
 use Rattle.san_expr.specs.declared.stmt.Stmt.{Stmt}
 use Rattle.san_expr.specs.declared.stmt.Stmt.TheOpen.{Stmt-F}
-use Rattle.san_expr.specs.declared.stmt.Stmt.TheViews.{roll-Stmt}
-use Rattle.san_expr.specs.declared.stmt.Stmt.TheFolds.{fold-roll-Stmt, map-Stmt, ind-Stmt}
+use Rattle.san_expr.specs.declared.stmt.Stmt.TheFolds.{map-Stmt}
 use Rattle.san_expr.specs.Meaning.{Meaning, settled, value_at, put_at, then_do}
 use Rattle.san_expr.specs.Value.{value_step, value_of, rest_of, is_decided, truth, is_zero, applied, cell_of}
 use Rattle.san_expr.specs.Effect.{Acts, assign_at, in_turn, chosen, effect_step, effect_of, effects_of}

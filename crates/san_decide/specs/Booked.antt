@@ -15,7 +15,6 @@ use Rattle.san_law.specs.Step.{Event}
 use Rattle.san_leaf.specs.Pieces.{PieceValue, reads_in}
 use Rattle.san_leaf.specs.States.{kind_in, pair_in}
 use Rattle.san_net.specs.Instants.{Named}
-use Rattle.san_net.specs.Laid.{IsNetwork}
 use Rattle.san_net.specs.Network.{Network}
 use Rattle.san_net.specs.Runs.{net_at}
 use Rattle.san_net.specs.declared.activity.ActKind.{ActKind}

@@ -1,46 +1,22 @@
--- What is needed of a machine, and what a piece is made from.
-use Rattle.std.specs.Prelude.{ℕ, ◌≡◌, ◌≤◌, List, Option, Some, None, slice_get}
-use Rattle.san_base.specs.declared.piece.Kind.{Kind}
-use Rattle.san_base.specs.declared.piece.Kind.TheVariants as kind
+-- What an order answers, and what a piece is made from.
+use Rattle.std.specs.Prelude.{ℕ, ◌≡◌, List, Option, Some, None, slice_get}
 use Rattle.san_law.specs.Core.{leaf_of}
-use Rattle.san_law.specs.Order.{Needs, Order, need_of}
+use Rattle.san_law.specs.Order.{Order, need_of}
 use Rattle.san_law.specs.Step.{Ending}
-use Rattle.san_law.specs.Pieces.{next_piece}
 use Rattle.san_leaf.specs.Claimed.{Claimed}
 use Rattle.san_leaf.specs.Pieces.{AgreesWith, PieceValue}
-use Rattle.san_leaf.specs.States.{kind_in}
 use Rattle.san_net.specs.Network.{Network}
 use Rattle.san_net.specs.declared.part.Part.{Part}
 use Rattle.san_turn.specs.Needs.{need_in}
 use Rattle.san_turn.specs.declared.need.Need.{Need}
 use Rattle.san_turn.specs.declared.need.Need.TheVariants as need
 use Rattle.san_core.specs.Committed.{CommittedValue}
-use Rattle.san_core.specs.Machines.{MachineValue, core_in, net_in}
 use Rattle.san_core.specs.declared.admission.Taking.{Taking}
 
 -- what an order answers, unless there is a stop
 abbrev pub need_given : List ℕ → ℕ → Order → Option Ending → Need
 need_given firsts horizon order (Some e) = need.End
 need_given firsts horizon order None = need_in firsts (need_of horizon order)
-
--- an activity that fires is not before its leaf's first one
-abbrev pub NumbersFrom : ℕ → Kind → Type 0
-NumbersFrom first (kind.Fire act) = first ≤ act.0
-NumbersFrom first kind.Settle = Unit {0}
-NumbersFrom first kind.Refresh = Unit {0}
-
--- the machine goes on, and this is the leaf, the kind and the time of its need
-pub record IsNeed (m : MachineValue) (t : Taking) : Type 0 where
-  pub going : m.held.core.stop ≡ None
-  pub need : need_of m.limits.horizon.0 m.held.core.order ≡ Needs t.leaf.0 (kind_in t.first.0 t.kind) t.time.0
-  pub numbers : NumbersFrom t.first.0 t.kind
-  pub part : Part
-  pub there : slice_get m.network.parts t.leaf.0 ≡ Some part
-  pub first : part.first ≡ t.first
-
-abbrev pub NeedBy : MachineValue → Option Taking → Type 0
-NeedBy m None = next_piece (net_in m) (core_in m) ≡ None
-NeedBy m (Some t) = IsNeed m t
 
 -- what the needed piece is claimed from
 abbrev pub claim_from : CommittedValue → ℕ → Taking → Part → Claimed

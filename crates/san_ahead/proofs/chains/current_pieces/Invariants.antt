@@ -1,4 +1,4 @@
-use Rattle.std.proofs.Common.{◌+◌, ◌≡◌, drop, length, map}
+use Rattle.std.proofs.Common.{◌+◌, ◌≡◌, drop, map}
 use Rattle.san_book.specs.Chains.{current}
 use Rattle.san_decide.specs.Booked.{of_piece}
 use Rattle.san_ahead.specs.Aheads.{line_in}

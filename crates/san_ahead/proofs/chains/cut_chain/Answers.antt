@@ -1,5 +1,4 @@
-use Rattle.std.proofs.Common.{◌≡◌, ◌∙◌, ap, sym, subst, drop, length, map, List, ℕ, arith}
-use Rattle.std.proofs.lemmas.List.{at_drop_more, drop_more}
+use Rattle.std.proofs.Common.{◌∙◌, ap, sym, subst, length, map, List, ℕ, arith}
 use Rattle.std.proofs.Math.ListN.{drop_of_length-le}
 use Rattle.san_book.specs.Chains.{AllFit, without_pieces}
 use Rattle.san_book.specs.Lines.{AreWrites, each, withdraw}

@@ -1,5 +1,4 @@
-use Rattle.std.proofs.Common.{◌∙◌, ap, sym, map, ℕ, Bool}
-use Rattle.san_base.specs.declared.piece.Stamp.{Stamp}
+use Rattle.std.proofs.Common.{◌∙◌, ap, sym, map}
 use Rattle.san_book.specs.Lines.{agrees, seen_at}
 use Rattle.san_decide.specs.Booked.{entry_of}
 use Rattle.san_decide.proofs.Booking.{entries_back}

@@ -1,4 +1,4 @@
-use Rattle.std.proofs.Common.{ℕ, ◌<◌, ◌≤◌, ◌≡◌, ◌∙◌, ap, subst, sym, arith}
+use Rattle.std.proofs.Common.{◌<◌, ◌∙◌, ap, subst, sym, arith}
 use Rattle.san_book.specs.Lines.{put}
 use Rattle.san_line.specs.Lines.{LineValue, find}
 use Rattle.san_ahead.specs.Aheads.{line_in}

@@ -1,0 +1,13 @@
+pub mod Speculated
+pub mod Keeping
+pub mod Runs
+pub mod Stepping
+pub mod Seen
+pub mod Cuts
+pub mod Nexts
+pub mod Heads
+pub mod Commits
+pub mod Committings
+pub mod Advancing
+pub mod Redos
+pub mod Counters

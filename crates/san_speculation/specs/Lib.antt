@@ -1,0 +1,3 @@
+pub mod Speculating
+pub mod CoreCalls
+pub mod inner

@@ -1,0 +1,18 @@
+//! The speculative core: a machine, and the book of what is made ahead of it.
+#![tactic(auto)]
+
+mod booking;
+mod commit;
+mod committing;
+mod cut;
+mod need;
+mod opening;
+mod reading;
+mod redo;
+mod resuming;
+mod retaking;
+mod speculation;
+mod step;
+
+pub use speculation::Core;
+pub use step::Step;

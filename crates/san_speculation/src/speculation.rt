@@ -1,0 +1,33 @@
+//! A core: a machine, and what is made ahead of it.
+
+use crate::step::Step;
+use san_ahead::Ahead;
+use san_base::LeafId;
+use san_core::Machine;
+use std::marker::Model;
+
+/// A machine; what its workers make ahead of it; for the caller and each worker perhaps a claimed
+/// leaf; the steps so far; and how often pieces were thrown away.
+#[derive(Drop)]
+pub struct Core {
+    pub(crate) machine: Machine,
+    pub(crate) ahead: Ahead,
+    pub(crate) claims: Vec<Option<LeafId>>,
+    pub(crate) journal: Vec<Step>,
+    pub(crate) rollbacks: u64,
+}
+
+impl Model for Core {
+    ghost use Rattle.std.specs.Coded.{codes};
+    ghost use Rattle.san_net.specs.contracts.part.Part as of_part;
+    ghost use Rattle.san_speculation.specs.Speculating.{CoreValue, IsReplayed, core_by};
+
+    ghost Value = { CoreValue };
+
+    ghost coded = { Prim.hlevel (codes, of_part.the_row.coded) };
+
+    ghost view = { λ c. core_by c.machine c.ahead c.claims.items c.journal.items c.rollbacks };
+
+    ghost invariant = { λ c. IsReplayed (core_by c.machine c.ahead c.claims.items c.journal.items
+        c.rollbacks) };
+}
