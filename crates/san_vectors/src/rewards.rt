@@ -33,7 +33,7 @@ fn no_terms_no_rates(rt: HostRuntime) -> Result<(), Fail> {
     let mut tally = Tally::open(rt.alloc(), &flat, Tick(10))?;
     let bare = tally.copy(rt.alloc())?;
     tally.rate_all(&flat, &[0, 1, 0]);
-    tally.rate_of_leaf(&flat, LeafId(0), &[0, 1]);
+    tally.rate_of_leaf(&flat, LeafId(0), &[0, 1, 0]);
     assert!(rt; tally.terms(LeafId(0)) == 0);
     tally.rate_leaf(LeafId(0), &[]);
     assert!(rt; bare.same(&tally));

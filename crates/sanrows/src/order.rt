@@ -38,7 +38,7 @@ fn put_events(alloc: Global, page: &mut Vec<u8>, flat: &Flat, ran: &Ran) -> Resu
 
 /// Adds the lines of the rewards.
 fn put_rewards(alloc: Global, page: &mut Vec<u8>, flat: &Flat, ran: &Ran) -> Result<(), NoMemory>
-    requires { length ran.tally.spans ≡ length flat.now.rewards }
+    requires { length ran.now.tally.spans ≡ length flat.now.rewards }
 {
     flat.is_network();
     for (at, reward) in flat.rewards().iter().enumerate() {
@@ -50,7 +50,7 @@ fn put_rewards(alloc: Global, page: &mut Vec<u8>, flat: &Flat, ran: &Ran) -> Res
 
 /// The report of a run; none where it names what isn't in the network.
 fn report(alloc: Global, flat: &Flat, ran: &Ran) -> Result<Option<Vec<u8>>, NoMemory>
-    requires { length ran.tally.spans ≡ length flat.now.rewards }
+    requires { length ran.now.tally.spans ≡ length flat.now.rewards }
 {
     let mut page = Vec::new(alloc);
     if !ends_in(flat, ran.ending) || !put_events(alloc, &mut page, flat, ran)? {
