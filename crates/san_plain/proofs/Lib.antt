@@ -10,6 +10,7 @@ pub mod OpenedLemmas
 pub mod RateLemmas
 pub mod RatedLemmas
 pub mod ReportLemmas
+pub mod SmallLemmas
 pub mod StepLemmas
 pub mod SummaryLemmas
 pub mod TurnLemmas

@@ -44,7 +44,7 @@ worths_like (x ∷ xs) r f g h =
 
 module _ (o : Opened) (es : List law.Event) (s : State) (c : CountedRun) (st : RunStands o es s c) (e : Ending) (new : CountedRun) (ends : Ends o s e c new) where
   -- by the trajectory
-  ran : measured_of o ≡ Some (measured_by o.network (net_by o) (record { events = es; time = ends.time; ending = ends.why }))
+  pub ran : measured_of o ≡ Some (measured_by o.network (net_by o) (record { events = es; time = ends.time; ending = ends.why }))
   ran =
       let net = net_by o in
       ap (option_map (measured_by o.network net)) (rest_is_trajectory net (opening_state net) s es (record { events = []; time = ends.time; ending = ends.why }) st.runs (ends_at net s ends.time ends.why ends.over))

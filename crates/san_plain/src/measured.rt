@@ -2,7 +2,7 @@
 
 ghost use Rattle.std.specs.Prelude.{◌≡◌, Some, length, IfOk, OnOk};
 ghost use Rattle.san_base.specs.Limits.{IsInRange};
-ghost use Rattle.san_plain.specs.Measures.{measured_of, worths_from};
+ghost use Rattle.san_plain.specs.Measures.{AreSmallWorths, measured_of, worths_from};
 ghost use Rattle.san_report.specs.Closings.{worths_by};
 
 use crate::counted::CountedRun;
@@ -41,8 +41,12 @@ pub fn measure(
     worths: &mut Vec<Option<Worth>>,
 ) -> Result<Ending, NoMemory>
     requires { IsInRange limits }
-    ensures { IfOk result (λ e. measured_of (record { network = flat.now; seed = seed; limits = limits })
-        ≡ Some (record { ending = e; worths = worths.new.items })) }
+    ensures measured { IfOk result (λ e. measured_of (record {
+      network = flat.now;
+      seed = seed;
+      limits = limits;
+    }) ≡ Some (record { ending = e; worths = worths.new.items })) }
+    ensures small { OnOk result (AreSmallWorths worths.new.items) }
 {
     flat.is_network();
     let mut run = CountedRun::open(alloc, flat, seed, limits)?;

@@ -14,4 +14,5 @@ mod worth;
 pub use last_lines::{close, worth_at};
 pub use line::{ending_line, event_line, put_ending, put_event};
 pub use pages::{Line, Pages};
+pub use pieces::push_pieces;
 pub use worth::{put_reward, reward_line};

@@ -1,10 +1,10 @@
 //! A line is put piece by piece.
 
-ghost use Rattle.std.specs.Prelude.{◌≡◌, ◌≤◌, ◌++◌, IsTrue, MatchBool, length, map};
+ghost use Rattle.std.specs.Prelude.{◌≡◌, ◌≤◌, ◌++◌, IsTrue, MatchBool, OnOk, length, map};
 ghost use Rattle.san_report.specs.Lines.{joined};
 ghost use Rattle.san_report.specs.Puts.{Wrote};
 
-use san_base::{Sink, SureSink, put_all};
+use san_base::{NoMemory, Sink, SureSink, put_all};
 
 fn put_piece<K: Sink>(sink: &mut K, piece: &[u8]) -> bool
     ensures { Wrote result (K.held sink.old) (K.held sink.new) (K.faults sink.old)
@@ -61,4 +61,14 @@ pub(crate) fn append_pieces(page: &mut SureSink, pieces: &[&[u8]]) -> bool
         append_all(page, pieces);
     }
     fits
+}
+
+/// Pushes the pieces one behind another.
+pub fn push_pieces(text: &mut Vec<u8>, pieces: &[&[u8]]) -> Result<(), NoMemory>
+    ensures { OnOk result (text.new.items ≡ text.old.items ++ joined (map (λ p. p.now) pieces.now)) }
+{
+    'pieces: for k in 0..pieces.len() {
+        text.extend_from_slice(pieces[k])?;
+    }
+    Ok(())
 }

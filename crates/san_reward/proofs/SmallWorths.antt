@@ -38,7 +38,7 @@ bounded (negsuc n) = by_test (nat_lt n MAX_RATED) refl
     by_test true e = omega (arith, ltb-true n MAX_RATED e)
     by_test false e = tt
 
-rated_small : (r : Result ℤ Trap) → IsAtMost MAX_RATED (rated_by r)
+pub rated_small : (r : Result ℤ Trap) → IsAtMost MAX_RATED (rated_by r)
 rated_small (Ok x) = bounded x
 rated_small (Err trap) = tt
 

@@ -3,3 +3,4 @@ pub mod OffsetLemmas
 pub mod NoteLemmas
 pub mod ServeLemmas
 pub mod SettledLemmas
+pub mod WrittenLemmas

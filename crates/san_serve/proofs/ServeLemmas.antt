@@ -7,9 +7,9 @@ use Rattle.san_text.specs.declared.text.Refusal.{Refusal}
 use Rattle.san_serve.specs.Answers.{StatusSays, TextSays, IsRefused, ServesBytes}
 use Rattle.san_serve.specs.Bounds.{IsRead, too_long}
 use Rattle.san_serve.specs.declared.bound.Bound.{Bound}
-use Rattle.san_serve.specs.Notes.{IsLine, status_line}
+use Rattle.san_serve.specs.Notes.{Concludes, IsLine, status_line}
 use Rattle.san_serve.specs.Tasks.{TaskMeaning}
-use Rattle.san_serve.specs.inner.Serving.{Concludes, Serves, ServesText, answer_of}
+use Rattle.san_serve.specs.inner.Serving.{Serves, ServesText, answer_of}
 use Rattle.san_serve.specs.declared.task.Served.{Served}
 use Rattle.san_serve.specs.declared.task.Served.TheVariants as served
 

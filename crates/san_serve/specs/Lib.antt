@@ -5,4 +5,5 @@ pub mod Examples
 pub mod Notes
 pub mod Settled
 pub mod Tasks
+pub mod Written
 pub mod inner

@@ -1,5 +1,5 @@
 -- The line of the notes.
-use Rattle.std.specs.Prelude.{ℕ, ◌≡◌, ◌⊎◌, ◌++◌, nat_lt, if◌then◌else◌, List, [], ◌∷◌, Option, codes}
+use Rattle.std.specs.Prelude.{ℕ, ◌≡◌, ◌⊎◌, ◌++◌, nat_lt, if◌then◌else◌, List, [], ◌∷◌, Option, Result, Ok, Err, codes}
 use Rattle.std.specs.Fmt.{decimal}
 use Rattle.san_base.specs.Flow.{Appends, AppendsPrefix, CountRose}
 use Rattle.san_base.specs.declared.status.Status.{Status}
@@ -30,3 +30,10 @@ status_line s = codes ""
 abbrev pub IsLine : Status → (Refusal → Type 0) → List ℕ → Type 0
 IsLine status.Refused Is line = (refusal : Refusal) × Is refusal × (line ≡ refusal_line refusal)
 IsLine s Is line = line ≡ status_line s
+
+-- by an answer, which status and which line it comes to: memory may run out for the line of a refusal
+abbrev pub Concludes : Result Status Refusal → Status → (List ℕ → Type 0) → Type 0
+Concludes (Ok was) s IsPut = (s ≡ was) × IsPut (status_line was)
+Concludes (Err refusal) status.Refused IsPut = IsPut (refusal_line refusal)
+Concludes (Err refusal) status.NoMemory IsPut = IsPut (status_line status.NoMemory)
+Concludes (Err refusal) s IsPut = ⊥

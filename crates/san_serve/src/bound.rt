@@ -26,7 +26,7 @@ pub fn model_bound() -> Bound
 
 impl Bound {
     /// The refusal of more bytes, which has no place in the text.
-    pub(crate) fn too_long(self) -> Refusal
+    pub fn too_long(self) -> Refusal
         ensures { result ≡ too_long self }
     {
         Refusal {

@@ -12,6 +12,6 @@ mod task;
 pub use acceptance::{Accepted, NotAccepted, accept};
 pub use bound::{Bound, model_bound};
 pub use codes::{TEXT_TOO_LONG, TOO_MANY_ACTS, TOO_MANY_LEAVES, TOO_MANY_PLACES};
-pub use notes::end_with;
+pub use notes::{conclude, end_with};
 pub use serve::{serve_noted, serve_text_noted};
 pub use task::{Served, Task};

@@ -1,8 +1,7 @@
 //! The line of the notes: what went wrong.
 
 ghost use Rattle.std.specs.Prelude.{◌≡◌, ◌++◌, codes, decimal, IfOk, OnOk};
-ghost use Rattle.san_serve.specs.Notes.{Noted, code_digits, refusal_line, status_line};
-ghost use Rattle.san_serve.specs.inner.Serving.{Concludes};
+ghost use Rattle.san_serve.specs.Notes.{Concludes, Noted, code_digits, refusal_line, status_line};
 
 use itoa::Buffer;
 use san_base::{NoMemory, Sink, Status, put_all};
@@ -75,8 +74,9 @@ pub fn end_with<N: Sink>(status: Status, notes: &mut N) -> Status
     status
 }
 
-/// The status that an answer comes to, whose line is put into the notes.
-pub(crate) fn conclude<N: Sink>(
+/// The status that an answer comes to, whose line is put into the notes. A note that fails changes no
+/// status.
+pub fn conclude<N: Sink>(
     alloc: Global,
     answer: Result<Status, Refusal>,
     notes: &mut N,

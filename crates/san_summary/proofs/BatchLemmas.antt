@@ -24,6 +24,9 @@ summaries_long : (r many : ℕ) (os : List Outcome) → length (summaries r many
 summaries_long r zero os = refl
 summaries_long r (suc many) os = ap suc (summaries_long (suc r) many os)
 
+pub sums_long : (many : ℕ) (os : List Outcome) → length (sums_of many os).rewards ≡ many
+sums_long many os = summaries_long 0 many os
+
 summaries_at : (a many m i : ℕ) (os : List Outcome) → i < many → m ≡ a + i → at (summaries a many os) i ≡ summary_of (numbers_at m os)
 summaries_at a zero m i os h e = absurd (omega (arith, h))
 summaries_at a (suc many) m zero os h e = let k : a ≡ m = omega (arith, e) in ap (λ r. summary_of (numbers_at r os)) k

@@ -1,3 +1,3 @@
-mod BatchLemmas
+pub mod BatchLemmas
 mod PlaceLemmas
 mod SummaryLemmas

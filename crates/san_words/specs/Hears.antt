@@ -1,20 +1,27 @@
 -- What is heard of words.
-use Rattle.std.specs.Prelude.{◌≡◌, ◌<◌, ◌≤◌, ◌^◌, ℕ, Bool, List, min, max, Option, None, Some, IfSome, is_some}
+use Rattle.std.specs.Prelude.{◌≡◌, ◌<◌, ◌≤◌, ◌+◌, ◌^◌, ℕ, Bool, List, min, max, Option, None, Some, IfSome, is_some}
 use Rattle.std.specs.Str.Parse.{digits_value, without_leading_plus, IsNumeral}
 use Rattle.clap.specs.Simple.{App, matches_of}
 use Rattle.clap.specs.Walk.{Text, one_of}
 use Rattle.san_base.specs.Limits.{IsInRange}
 use Rattle.san_base.specs.declared.limits.Limits.{Limits}
-use Rattle.san_base.specs.declared.limits.TheConstants.{MAX_WORKERS}
+use Rattle.san_base.specs.declared.limits.TheConstants.{MAX_TOKENS, MAX_WORKERS}
 use Rattle.san_gen.specs.declared.model.TheConstants.{MAX_COPIES, MIN_COPIES}
-use Rattle.san_words.specs.Commands.{IsTaken}
+use Rattle.san_summary.specs.declared.batch.TheConstants.{MAX_RUNS}
+use Rattle.san_words.specs.Commands.{IsTaken, batch_app, first_app}
 use Rattle.san_words.specs.Options.{Row, default_in, kind_of, least_of, most_of, row_of}
 use Rattle.san_words.specs.declared.options.NumberOption.{NumberOption}
-use Rattle.san_words.specs.declared.options.NumberOption.TheVariants.{Burst, Events, Horizon, Kind, Make, Rollbacks, Seed, Window, Workers}
+use Rattle.san_words.specs.declared.options.NumberOption.TheVariants.{BatchWorkers, Burst, Events, FirstRuns, Horizon, Kind, Least, Make, Place, Rollbacks, Runs, Seed, Window, Workers}
+use Rattle.san_words.specs.declared.orders.BatchOrders.{BatchOrders}
+use Rattle.san_words.specs.declared.orders.FirstOrders.{FirstOrders}
 use Rattle.san_words.specs.declared.orders.Made.{Made}
 use Rattle.san_words.specs.declared.orders.Orders.{Orders}
 use Rattle.san_words.specs.declared.orders.Heard.{Heard}
 use Rattle.san_words.specs.declared.orders.Heard.TheVariants.{Run, Refused, NoMemory}
+use Rattle.san_words.specs.declared.orders.HeardBatch.{HeardBatch}
+use Rattle.san_words.specs.declared.orders.HeardBatch.TheVariants as batch
+use Rattle.san_words.specs.declared.orders.HeardFirst.{HeardFirst}
+use Rattle.san_words.specs.declared.orders.HeardFirst.TheVariants as first
 
 -- digits, perhaps behind a plus, that write a number of 64 bits
 abbrev pub IsWritten : Text → Type 0
@@ -101,3 +108,58 @@ abbrev pub CanRun : Heard → Type 0
 CanRun (Run o) = IsInRange o.limits × (o.workers ≤ MAX_WORKERS) × CanMake o.make
 CanRun Refused = Unit {0}
 CanRun NoMemory = Unit {0}
+
+-- many runs, whose number an option sets; they are never ahead
+pub record RunsSay (option : NumberOption) (texts : Texts) (o : BatchOrders) : Type 0 where
+  pub bounds : BoundsSay texts o.seed o.limits
+  pub window : o.limits.window ≡ default_in (row_of Window)
+  pub rollbacks : o.limits.rollbacks ≡ default_in (row_of Rollbacks)
+  pub runs_said : SetsNumber texts option o.runs
+  pub workers_said : SetsNumber texts BatchWorkers o.workers
+
+abbrev pub BatchSay : Texts → BatchOrders → Type 0
+BatchSay texts o = RunsSay Runs texts o
+
+-- the last run has a seed: run k has the first seed plus k
+abbrev pub HasSeeds : BatchOrders → Type 0
+HasSeeds o = o.seed + o.runs ≤ 2 ^ 64
+
+-- words that order a batch
+abbrev pub IsBatch : List Text → Type 0
+IsBatch words = IsTaken batch_app words × ((o : BatchOrders) × BatchSay (texts_of batch_app words) o × HasSeeds o)
+
+abbrev pub HearsBatch : List Text → HeardBatch → Type 0
+HearsBatch words (batch.Batch o) = IsTaken batch_app words × BatchSay (texts_of batch_app words) o × HasSeeds o
+HearsBatch words batch.Refused = IsBatch words → ⊥
+HearsBatch words batch.NoMemory = Unit {0}
+
+-- many runs that can be made
+pub record CanRunMany (o : BatchOrders) : Type 0 where
+  pub range : IsInRange o.limits
+  pub runs : (1 ≤ o.runs) × (o.runs ≤ MAX_RUNS)
+  pub workers : (1 ≤ o.workers) × (o.workers ≤ MAX_WORKERS)
+
+abbrev pub CanRunBatch : HeardBatch → Type 0
+CanRunBatch (batch.Batch o) = CanRunMany o
+CanRunBatch batch.Refused = Unit {0}
+CanRunBatch batch.NoMemory = Unit {0}
+
+-- the same up to a marking in which a place has at least a value
+pub record FirstSay (texts : Texts) (o : FirstOrders) : Type 0 where
+  pub batch_said : RunsSay FirstRuns texts o.batch
+  pub place_said : SetsNumber texts Place o.place
+  pub least_said : SetsNumber texts Least o.least
+
+-- words that order such runs
+abbrev pub IsFirst : List Text → Type 0
+IsFirst words = IsTaken first_app words × ((o : FirstOrders) × FirstSay (texts_of first_app words) o × HasSeeds o.batch)
+
+abbrev pub HearsFirst : List Text → HeardFirst → Type 0
+HearsFirst words (first.First o) = IsTaken first_app words × FirstSay (texts_of first_app words) o × HasSeeds o.batch
+HearsFirst words first.Refused = IsFirst words → ⊥
+HearsFirst words first.NoMemory = Unit {0}
+
+abbrev pub CanRunFirst : HeardFirst → Type 0
+CanRunFirst (first.First o) = CanRunMany o.batch × (o.least ≤ MAX_TOKENS)
+CanRunFirst first.Refused = Unit {0}
+CanRunFirst first.NoMemory = Unit {0}

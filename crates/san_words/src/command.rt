@@ -2,12 +2,14 @@
 
 ghost use Rattle.std.specs.Prelude.{◌≡◌, IfOk};
 ghost use Rattle.clap.specs.Words.{app_of};
-ghost use Rattle.san_words.specs.Commands.{bare, plain_app, run_app, with_bounds, with_limits};
-ghost use Rattle.san_words.specs.Commands.{with_model};
+ghost use Rattle.san_words.specs.Commands.{bare, batch_app, first_app, plain_app, run_app};
+ghost use Rattle.san_words.specs.Commands.{with_bounds, with_limits, with_model, with_place, with_runs};
 
 use crate::argument::argument;
+use crate::options::NumberOption;
 use crate::options::NumberOption::{
-    Burst, Events, Horizon, Kind, Make, Rollbacks, Seed, Window, Workers,
+    BatchWorkers, Burst, Events, FirstRuns, Horizon, Kind, Least, Make, Place, Rollbacks, Runs,
+    Seed, Window, Workers,
 };
 use clap::Command;
 use std::alloc::{AllocError, Global};
@@ -62,4 +64,43 @@ pub(crate) fn plain_command<'a>(alloc: Global) -> Result<Command<'a>, AllocError
     ensures { IfOk result (λ c. app_of c ≡ plain_app) }
 {
     with_model(alloc, with_bounds(alloc, bare(alloc, "sanplain"))?)
+}
+
+/// A command with the options of many runs, whose number one of them sets.
+fn with_runs<'a>(
+    alloc: Global,
+    command: Command<'a>,
+    runs: NumberOption,
+) -> Result<Command<'a>, AllocError>
+    ensures { IfOk result (λ c. app_of c ≡ with_runs runs (app_of command.entry)) }
+{
+    command
+        .arg(argument(alloc, runs))?
+        .arg(argument(alloc, BatchWorkers))
+}
+
+/// A command with the options of a place's value.
+fn with_place<'a>(alloc: Global, command: Command<'a>) -> Result<Command<'a>, AllocError>
+    ensures { IfOk result (λ c. app_of c ≡ with_place (app_of command.entry)) }
+{
+    command
+        .arg(argument(alloc, Place))?
+        .arg(argument(alloc, Least))
+}
+
+/// The command of a batch.
+#[tactic(auto, unfolding(crate::specs::Commands::batch_app))]
+pub(crate) fn batch_command<'a>(alloc: Global) -> Result<Command<'a>, AllocError>
+    ensures { IfOk result (λ c. app_of c ≡ batch_app) }
+{
+    with_runs(alloc, with_bounds(alloc, bare(alloc, "sanbatch"))?, Runs)
+}
+
+/// The command of runs up to a marking.
+#[tactic(auto, unfolding(crate::specs::Commands::first_app))]
+pub(crate) fn first_command<'a>(alloc: Global) -> Result<Command<'a>, AllocError>
+    ensures { IfOk result (λ c. app_of c ≡ first_app) }
+{
+    let command = with_place(alloc, with_bounds(alloc, bare(alloc, "sanfirst"))?)?;
+    with_runs(alloc, command, FirstRuns)
 }

@@ -10,5 +10,5 @@ mod values;
 mod words;
 
 pub use options::{NumberOption, NumberRange};
-pub use orders::{Heard, Made, Orders};
-pub use words::{hear, hear_plain};
+pub use orders::{BatchOrders, FirstOrders, Heard, HeardBatch, HeardFirst, Made, Orders};
+pub use words::{hear, hear_batch, hear_first, hear_plain};

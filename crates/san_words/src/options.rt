@@ -4,8 +4,11 @@ ghost use Rattle.std.specs.Prelude.{◌≡◌, decimal};
 ghost use Rattle.san_words.specs.Options.{least_of, most_of, optional, required, row_of, unset};
 ghost use Rattle.san_words.specs.inner.Rows.{IsRow, default_of};
 
-use san_base::{MAX_BURST, MAX_EVENTS, MAX_HORIZON, MAX_ROLLBACKS, MAX_WINDOW, MAX_WORKERS};
+use san_base::{
+    MAX_BURST, MAX_EVENTS, MAX_HORIZON, MAX_ROLLBACKS, MAX_TOKENS, MAX_WINDOW, MAX_WORKERS,
+};
 use san_gen::{MAX_COPIES, MIN_COPIES};
+use san_summary::MAX_RUNS;
 
 /// The burst limit where none is given, in completions.
 const DEFAULT_BURST: u64 = 1_000;
@@ -31,6 +34,15 @@ pub(crate) const RING_NUMBER: u32 = 2;
 /// The kind of a generated model where none is given.
 const DEFAULT_KIND: u64 = 1;
 
+/// The threads that run a batch where no number is given.
+const DEFAULT_BATCH_WORKERS: u64 = 4;
+
+/// The runs up to a marking where no number is given.
+const DEFAULT_RUNS: u64 = 1;
+
+/// The number of the last place of the largest network.
+pub(crate) const LAST_PLACE: u32 = 65_535;
+
 /// An option of the programs, which sets one whole number.
 #[derive(Clone, Copy, Debug, PartialEq, Eq)]
 pub enum NumberOption {
@@ -45,6 +57,16 @@ pub enum NumberOption {
     Make,
     /// The number of the generated model's kind.
     Kind,
+    /// The runs of a batch.
+    Runs,
+    /// The threads of a batch, of which there is one at least.
+    BatchWorkers,
+    /// The place that is looked at.
+    Place,
+    /// The value that it has at least.
+    Least,
+    /// The runs up to a marking.
+    FirstRuns,
 }
 
 /// The least and the greatest number that an option takes.
@@ -165,5 +187,15 @@ pub(crate) fn row<'a>(option: NumberOption) -> OptionRow<'a>
         ),
         NumberOption::Make => unset("make", Signed(MIN_COPIES, MAX_COPIES)),
         NumberOption::Kind => optional("kind", Signed(FARM_NUMBER, RING_NUMBER), DEFAULT_KIND, "1"),
+        NumberOption::Runs => required("runs", Signed(1, MAX_RUNS)),
+        NumberOption::BatchWorkers => optional(
+            "workers",
+            Signed(1, MAX_WORKERS),
+            DEFAULT_BATCH_WORKERS,
+            "4",
+        ),
+        NumberOption::Place => required("place", Signed(0, LAST_PLACE)),
+        NumberOption::Least => required("least", Signed(0, MAX_TOKENS)),
+        NumberOption::FirstRuns => optional("runs", Signed(1, MAX_RUNS), DEFAULT_RUNS, "1"),
     }
 }

@@ -1,4 +1,4 @@
-//! A run as the words of a command line order it.
+//! A run, or many, as the words of a command line order them.
 
 use san_base::Limits;
 use san_gen::ModelKind;
@@ -25,6 +25,41 @@ pub struct Orders {
 #[derive(Clone, Copy, Debug, PartialEq, Eq)]
 pub enum Heard {
     Run(Orders),
+    Refused,
+    NoMemory,
+}
+
+/// Many runs as the words order them, with seeds one behind another.
+#[derive(Clone, Copy, Debug, PartialEq, Eq)]
+pub struct BatchOrders {
+    /// The first run's seed.
+    pub seed: u64,
+    pub limits: Limits,
+    pub runs: u32,
+    /// The threads that run them.
+    pub workers: u32,
+}
+
+/// What is heard of words that order many runs.
+#[derive(Clone, Copy, Debug, PartialEq, Eq)]
+pub enum HeardBatch {
+    Batch(BatchOrders),
+    Refused,
+    NoMemory,
+}
+
+/// Many runs as the words order them, each up to a marking in which a place has at least a value.
+#[derive(Clone, Copy, Debug, PartialEq, Eq)]
+pub struct FirstOrders {
+    pub batch: BatchOrders,
+    pub place: u32,
+    pub least: u32,
+}
+
+/// What is heard of words that order runs up to such a marking.
+#[derive(Clone, Copy, Debug, PartialEq, Eq)]
+pub enum HeardFirst {
+    First(FirstOrders),
     Refused,
     NoMemory,
 }

@@ -1,19 +1,22 @@
 //! The numbers that the options of a command line set.
 
-ghost use Rattle.std.specs.Prelude.{◌≡◌, ◌≤◌, is_some};
+ghost use Rattle.std.specs.Prelude.{◌≡◌, ◌≤◌, ◌↔◌, IsTrue, is_some};
 ghost use Rattle.clap.specs.Words.{found_of, one_text};
 ghost use Rattle.san_base.specs.Limits.{IsInRange};
 ghost use Rattle.san_base.specs.declared.limits.TheConstants.{MAX_ROLLBACKS, MAX_WINDOW};
-ghost use Rattle.san_base.specs.declared.limits.TheConstants.{MAX_WORKERS};
-ghost use Rattle.san_words.specs.Hears.{BoundsSay, CanMake, MakeSays, OrdersSay, PlainSay, Says};
-ghost use Rattle.san_words.specs.Hears.{SetsNumber};
-ghost use Rattle.san_words.specs.Options.{kind_of, least_of, most_of, row_of};
+ghost use Rattle.san_base.specs.declared.limits.TheConstants.{MAX_TOKENS, MAX_WORKERS};
+ghost use Rattle.san_summary.specs.declared.batch.TheConstants.{MAX_RUNS};
+ghost use Rattle.san_words.specs.Hears.{BatchSay, BoundsSay, CanMake, CanRunMany, FirstSay, HasSeeds};
+ghost use Rattle.san_words.specs.Hears.{MakeSays, OrdersSay, PlainSay, Says, SetsNumber};
+ghost use Rattle.san_words.specs.declared.options.NumberOption.TheVariants.{BatchWorkers, Rollbacks, Window};
+ghost use Rattle.san_words.specs.Options.{default_in, kind_of, least_of, most_of, row_of};
 
 use crate::options::NumberOption::{
-    Burst, Events, Horizon, Kind, Make, Rollbacks, Seed, Window, Workers,
+    BatchWorkers, Burst, Events, FirstRuns, Horizon, Kind, Least, Make, Place, Rollbacks, Runs,
+    Seed, Window, Workers,
 };
 use crate::options::{FARM_NUMBER, NumberOption, row};
-use crate::orders::{Made, Orders};
+use crate::orders::{BatchOrders, FirstOrders, Made, Orders};
 use clap::ArgMatches;
 use san_base::{Limits, Tick};
 use san_gen::ModelKind;
@@ -73,19 +76,23 @@ fn made(matches: &ArgMatches<'_>) -> Option<Made>
     }
 }
 
-/// The seed, the bounds and the model, of a run that may be so far ahead.
-fn bounded(matches: &ArgMatches<'_>, window: u32, rollbacks: u64, workers: u32) -> Orders
+/// The seed and the bounds of a run.
+#[derive(Clone, Copy)]
+struct Bounds {
+    seed: u64,
+    limits: Limits,
+}
+
+/// The seed and the bounds of a run that may be so far ahead.
+fn bounds_of(matches: &ArgMatches<'_>, window: u32, rollbacks: u64) -> Bounds
     requires window { (1 ≤ window) × (window ≤ MAX_WINDOW) }
     requires rollbacks { rollbacks ≤ MAX_ROLLBACKS }
     ensures bounds { BoundsSay (one_text (found_of matches.now)) result.seed result.limits }
     ensures window { result.limits.window ≡ window }
     ensures rollbacks { result.limits.rollbacks ≡ rollbacks }
-    ensures workers { result.workers ≡ workers }
     ensures in_range { IsInRange result.limits }
-    ensures make { MakeSays (one_text (found_of matches.now)) result.make }
-    ensures can_make { CanMake result.make }
 {
-    Orders {
+    Bounds {
         seed: value(matches, Seed),
         limits: Limits {
             horizon: Tick(value(matches, Horizon)),
@@ -94,9 +101,19 @@ fn bounded(matches: &ArgMatches<'_>, window: u32, rollbacks: u64, workers: u32) 
             window,
             rollbacks,
         },
-        workers,
-        make: made(matches),
     }
+}
+
+/// The seed and the bounds of a run that is never ahead.
+fn plain_bounds(matches: &ArgMatches<'_>) -> Bounds
+    ensures bounds { BoundsSay (one_text (found_of matches.now)) result.seed result.limits }
+    ensures window { result.limits.window ≡ default_in (row_of Window) }
+    ensures rollbacks { result.limits.rollbacks ≡ default_in (row_of Rollbacks) }
+    ensures in_range { IsInRange result.limits }
+{
+    let window = row(Window).default_number() as u32;
+    let rollbacks = row(Rollbacks).default_number();
+    bounds_of(matches, window, rollbacks)
 }
 
 /// The run of `sanrun`.
@@ -108,8 +125,13 @@ pub(crate) fn run_orders(matches: &ArgMatches<'_>) -> Orders
 {
     let window = value(matches, Window) as u32;
     let rollbacks = value(matches, Rollbacks);
-    let workers = value(matches, Workers) as u32;
-    bounded(matches, window, rollbacks, workers)
+    let bounds = bounds_of(matches, window, rollbacks);
+    Orders {
+        seed: bounds.seed,
+        limits: bounds.limits,
+        workers: value(matches, Workers) as u32,
+        make: made(matches),
+    }
 }
 
 /// The run of `sanplain`, which is never ahead.
@@ -119,7 +141,58 @@ pub(crate) fn plain_orders(matches: &ArgMatches<'_>) -> Orders
     ensures workers { result.workers ≤ MAX_WORKERS }
     ensures can_make { CanMake result.make }
 {
-    let window = row(Window).default_number() as u32;
-    let rollbacks = row(Rollbacks).default_number();
-    bounded(matches, window, rollbacks, 0)
+    let bounds = plain_bounds(matches);
+    Orders {
+        seed: bounds.seed,
+        limits: bounds.limits,
+        workers: 0,
+        make: made(matches),
+    }
+}
+
+/// So many runs.
+fn many(matches: &ArgMatches<'_>, runs: u32) -> BatchOrders
+    requires { (1 ≤ runs) × (runs ≤ MAX_RUNS) }
+    ensures bounds { BoundsSay (one_text (found_of matches.now)) result.seed result.limits }
+    ensures window { result.limits.window ≡ default_in (row_of Window) }
+    ensures rollbacks { result.limits.rollbacks ≡ default_in (row_of Rollbacks) }
+    ensures runs { result.runs ≡ runs }
+    ensures workers { SetsNumber (one_text (found_of matches.now)) BatchWorkers result.workers }
+    ensures can_run { CanRunMany result }
+{
+    let bounds = plain_bounds(matches);
+    BatchOrders {
+        seed: bounds.seed,
+        limits: bounds.limits,
+        runs,
+        workers: value(matches, BatchWorkers) as u32,
+    }
+}
+
+/// The runs of `sanbatch`.
+pub(crate) fn batch_orders(matches: &ArgMatches<'_>) -> BatchOrders
+    ensures say { BatchSay (one_text (found_of matches.now)) result }
+    ensures can_run { CanRunMany result }
+{
+    many(matches, value(matches, Runs) as u32)
+}
+
+/// The runs of `sanfirst`.
+pub(crate) fn first_orders(matches: &ArgMatches<'_>) -> FirstOrders
+    ensures say { FirstSay (one_text (found_of matches.now)) result }
+    ensures can_run { CanRunMany result.batch }
+    ensures least { result.least ≤ MAX_TOKENS }
+{
+    FirstOrders {
+        batch: many(matches, value(matches, FirstRuns) as u32),
+        place: value(matches, Place) as u32,
+        least: value(matches, Least) as u32,
+    }
+}
+
+/// Whether the last of the runs has a seed.
+pub(crate) fn has_seeds(orders: BatchOrders) -> bool
+    ensures { IsTrue result ↔ HasSeeds orders }
+{
+    u64::from(orders.runs).saturating_sub(1) <= u64::MAX - orders.seed
 }

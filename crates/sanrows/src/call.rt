@@ -3,8 +3,10 @@
 use crate::below::call_below;
 use crate::order::run_by_pieces;
 use san_base::{MemSink, MemSource, NoMemory};
+use san_batch::batch_words;
 use san_cmd::{Status, plain_words, run_words, show_words};
 use std::alloc::Global;
+use std::thread::Threads;
 
 /// Bytes that a sink takes beyond what is expected, so that more than that is seen.
 pub(crate) const SPARE_BYTES: usize = 64;
@@ -83,7 +85,12 @@ impl<'a> Call<'a> {
     }
 
     /// Makes a top call on a text; none where there is no such call.
-    fn run_top(&self, alloc: Global, text: &[u8]) -> Result<Option<Ran>, NoMemory> {
+    fn run_top<R: Threads + Sync>(
+        &self,
+        rt: &R,
+        alloc: Global,
+        text: &[u8],
+    ) -> Result<Option<Ran>, NoMemory> {
         let words = self.all_words(alloc)?;
         let words = words.as_slice();
         let bytes = self.bytes.min(MOST_BYTES).max(1) as usize;
@@ -97,6 +104,7 @@ impl<'a> Call<'a> {
             "plain" => plain_words(alloc, words, &mut source, &mut sink, &mut notes),
             "run" => run_words(alloc, words, &mut source, &mut sink, &mut notes),
             "show" => show_words(alloc, words, &mut source, &mut sink, &mut notes),
+            "batch" => batch_words(rt, alloc, words, &mut source, &mut sink, &mut notes),
             _ => return Ok(None),
         };
         Ok(Some(Ran {
@@ -108,10 +116,15 @@ impl<'a> Call<'a> {
     }
 
     /// Makes the call on a text; none where there is no call of the name.
-    pub(crate) fn run(&self, alloc: Global, text: &[u8]) -> Result<Option<Ran>, NoMemory> {
+    pub(crate) fn run<R: Threads + Sync>(
+        &self,
+        rt: &R,
+        alloc: Global,
+        text: &[u8],
+    ) -> Result<Option<Ran>, NoMemory> {
         match self.name {
             "network" | "order" | "piece" => Ok(Some(self.run_below(alloc, text)?)),
-            _ => self.run_top(alloc, text),
+            _ => self.run_top(rt, alloc, text),
         }
     }
 }

@@ -21,6 +21,7 @@ use crate::trial::{Fault, fault_of, is_awaited};
 use std::alloc::Global;
 use std::fs::Files;
 use std::process::ExitCode;
+use std::thread::Threads;
 use std::{env, fs, io};
 
 /// How many rows there were, and how many of them failed.
@@ -41,14 +42,19 @@ impl Count {
 }
 
 /// Runs a row and prints how it went; whether it came true.
-fn say(rt: &HostRuntime, alloc: Global, piece: &str) -> io::Result<bool> {
+fn say<R: Threads + Sync>(
+    rt: &HostRuntime,
+    threads: &R,
+    alloc: Global,
+    piece: &str,
+) -> io::Result<bool> {
     let Some(row) = Row::read(piece) else {
         let name = piece.lines().next().unwrap_or("");
         println!(rt; "row {name} can't be read")?;
         return Ok(false);
     };
     let name = row.name;
-    match fault_of(alloc, &row) {
+    match fault_of(threads, alloc, &row) {
         Ok(fault) if is_awaited(&row, fault) => {
             println!(rt; "row {name} ok")?;
             Ok(true)
@@ -65,8 +71,9 @@ fn say(rt: &HostRuntime, alloc: Global, piece: &str) -> io::Result<bool> {
     }
 }
 
-/// Tells of all rows of the folder.
-fn say_all(rt: &HostRuntime) -> io::Result<Count> {
+/// Tells of all rows of the folder. The runtime can make threads in `main` alone, so they come from
+/// there.
+fn say_all<R: Threads + Sync>(rt: &HostRuntime, threads: &R) -> io::Result<Count> {
     let alloc: Global = rt.alloc();
     let mut count = Count { rows: 0, failed: 0 };
     let folder = match env::args(rt)?.nth(1) {
@@ -76,7 +83,7 @@ fn say_all(rt: &HostRuntime) -> io::Result<Count> {
     for file in files(rt, alloc, folder.as_str())?.iter() {
         let file = fs::read_to_string(rt, file.as_str())?;
         for piece in file.split(MARK).skip(1) {
-            let came_true = say(rt, alloc, piece)?;
+            let came_true = say(rt, threads, alloc, piece)?;
             count = count.and(came_true);
         }
     }
@@ -85,7 +92,7 @@ fn say_all(rt: &HostRuntime) -> io::Result<Count> {
 }
 
 fn main(rt: HostRuntime) -> ExitCode {
-    match say_all(&rt) {
+    match say_all(&rt, &rt) {
         Ok(Count { rows, failed: 0 }) => {
             if rows > 0 {
                 ExitCode::SUCCESS

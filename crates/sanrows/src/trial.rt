@@ -6,6 +6,7 @@ use crate::row::Row;
 use crate::setting::{are_known, numbers};
 use san_base::NoMemory;
 use std::alloc::Global;
+use std::thread::Threads;
 
 /// The room of a sink whose output is shown by its end alone, in bytes.
 const LONG_OUTPUT: usize = 1_048_576;
@@ -192,13 +193,14 @@ impl<'a> Trial<'a> {
     }
 
     /// The fault of a call on a text.
-    fn fault_once(
+    fn fault_once<R: Threads + Sync>(
         &mut self,
+        rt: &R,
         alloc: Global,
         call: &Call<'a>,
         text: &[u8],
     ) -> Result<Option<Fault>, NoMemory> {
-        let Some(ran) = call.run(alloc, text)? else {
+        let Some(ran) = call.run(rt, alloc, text)? else {
             return Ok(Some(Fault::UnknownCall));
         };
         if let Some(fault) = self.wanted.fault(call, &ran) {
@@ -211,8 +213,9 @@ impl<'a> Trial<'a> {
     }
 
     /// The fault of a call on a text, in each of the lists' settings.
-    fn fault(
+    fn fault<R: Threads + Sync>(
         &mut self,
+        rt: &R,
         alloc: Global,
         lists: &Lists,
         call: &Call<'a>,
@@ -225,7 +228,7 @@ impl<'a> Trial<'a> {
                     failing: *failing,
                     ..*call
                 };
-                let fault = self.fault_once(alloc, &call, text)?;
+                let fault = self.fault_once(rt, alloc, &call, text)?;
                 if fault.is_some() {
                     return Ok(fault);
                 }
@@ -234,9 +237,11 @@ impl<'a> Trial<'a> {
         Ok(None)
     }
 
-    /// The fault of a call with each value of the option that the row tries, which `run` takes.
-    fn fault_by_options(
+    /// The fault of a call with each value of the option that the row tries, which `run` and `batch`
+    /// take.
+    fn fault_by_options<R: Threads + Sync>(
         &mut self,
+        rt: &R,
         alloc: Global,
         lists: &Lists,
         row: &Row<'a>,
@@ -245,17 +250,17 @@ impl<'a> Trial<'a> {
     ) -> Result<Option<Fault>, NoMemory> {
         let each = row.value("each").unwrap_or("");
         let Some((option, values)) = each.split_once(" ") else {
-            return self.fault(alloc, lists, call, text);
+            return self.fault(rt, alloc, lists, call, text);
         };
-        if call.name != "run" {
-            return self.fault(alloc, lists, call, text);
+        if call.name != "run" && call.name != "batch" {
+            return self.fault(rt, alloc, lists, call, text);
         }
         for value in values.split_whitespace() {
             let call = Call {
                 option: Some((option, value)),
                 ..*call
             };
-            let fault = self.fault(alloc, lists, &call, text)?;
+            let fault = self.fault(rt, alloc, lists, &call, text)?;
             if fault.is_some() {
                 return Ok(fault);
             }
@@ -286,8 +291,9 @@ impl<'a> Trial<'a> {
     }
 
     /// The fault of the calls that a row names, on a text.
-    fn fault_by_calls(
+    fn fault_by_calls<R: Threads + Sync>(
         &mut self,
+        rt: &R,
         alloc: Global,
         lists: &Lists,
         row: &Row<'a>,
@@ -295,7 +301,7 @@ impl<'a> Trial<'a> {
     ) -> Result<Option<Fault>, NoMemory> {
         for name in row.value("calls").unwrap_or("").split_whitespace() {
             let call = self.call_of(row, name);
-            let fault = self.fault_by_options(alloc, lists, row, &call, text)?;
+            let fault = self.fault_by_options(rt, alloc, lists, row, &call, text)?;
             if fault.is_some() {
                 return Ok(fault);
             }
@@ -337,7 +343,8 @@ fn wanted_of<'a>(row: &Row<'a>) -> Option<Wanted<'a>> {
 }
 
 /// What of a row doesn't come true, by what its calls must come to and its lists.
-fn fault_by<'a>(
+fn fault_by<'a, R: Threads + Sync>(
+    rt: &R,
     alloc: Global,
     row: &Row<'a>,
     wanted: Wanted<'a>,
@@ -349,11 +356,11 @@ fn fault_by<'a>(
     };
     let text = text_of(alloc, row, lists.blanks)?;
     if lists.prefixes.is_empty() {
-        return trial.fault_by_calls(alloc, lists, row, text.as_slice());
+        return trial.fault_by_calls(rt, alloc, lists, row, text.as_slice());
     }
     for prefix in lists.prefixes.iter() {
         let end = (*prefix).min(text.len() as u64) as usize;
-        let fault = trial.fault_by_calls(alloc, lists, row, &text[..end])?;
+        let fault = trial.fault_by_calls(rt, alloc, lists, row, &text[..end])?;
         if fault.is_some() {
             return Ok(fault);
         }
@@ -362,14 +369,18 @@ fn fault_by<'a>(
 }
 
 /// What of a row doesn't come true.
-pub(crate) fn fault_of<'a>(alloc: Global, row: &Row<'a>) -> Result<Option<Fault>, NoMemory> {
+pub(crate) fn fault_of<'a, R: Threads + Sync>(
+    rt: &R,
+    alloc: Global,
+    row: &Row<'a>,
+) -> Result<Option<Fault>, NoMemory> {
     let lists = Lists::read(alloc, row)?;
     match (are_known(row), wanted_of(row), lists) {
         (true, Some(wanted), Some(lists)) => {
             if row.value("calls").is_none() {
                 Ok(Some(Fault::NoCall))
             } else {
-                fault_by(alloc, row, wanted, &lists)
+                fault_by(rt, alloc, row, wanted, &lists)
             }
         }
         _ => Ok(Some(Fault::Settings)),

@@ -4,7 +4,6 @@ use Rattle.san_base.specs.declared.status.Status.{Status}
 use Rattle.san_base.specs.declared.status.Status.TheVariants as status
 use Rattle.san_text.specs.declared.text.Refusal.{Refusal}
 use Rattle.san_serve.specs.Answers.{StatusSays, TextSays, IsRefused}
-use Rattle.san_serve.specs.Notes.{refusal_line, status_line}
 use Rattle.san_serve.specs.Tasks.{TaskMeaning}
 use Rattle.san_serve.specs.declared.task.Served.{Served}
 use Rattle.san_serve.specs.declared.task.Served.TheVariants as served
@@ -29,10 +28,3 @@ Serves m (Ok status.Words) left rest old new = ⊥
 Serves m (Ok status.Refused) left rest old new = ⊥
 Serves m (Ok s) left rest old new = StatusSays m s left rest old new
 Serves m (Err refusal) left rest old new = IsRefused m.bound m.refuses left rest refusal × (new ≡ old)
-
--- by an answer, which status and which line it comes to: memory may run out for the line of a refusal
-abbrev pub Concludes : Result Status Refusal → Status → (List ℕ → Type 0) → Type 0
-Concludes (Ok was) s IsPut = (s ≡ was) × IsPut (status_line was)
-Concludes (Err refusal) status.Refused IsPut = IsPut (refusal_line refusal)
-Concludes (Err refusal) status.NoMemory IsPut = IsPut (status_line status.NoMemory)
-Concludes (Err refusal) s IsPut = ⊥

@@ -25,3 +25,11 @@ optional-requires-in-Rollbacks c = refl
 pub optional-requires-in-Kind : goal.optional-requires-in-Kind
 unfolding digits
 optional-requires-in-Kind c = refl
+
+pub optional-requires-in-BatchWorkers : goal.optional-requires-in-BatchWorkers
+unfolding digits
+optional-requires-in-BatchWorkers c = refl
+
+pub optional-requires-in-FirstRuns : goal.optional-requires-in-FirstRuns
+unfolding digits
+optional-requires-in-FirstRuns c = refl

@@ -1,0 +1,3 @@
+pub mod HeardLemmas
+pub mod OutcomeLemmas
+pub mod TextLemmas

@@ -1,0 +1,4 @@
+pub mod Batches
+pub mod Outcomes
+pub mod Texts
+pub mod inner
