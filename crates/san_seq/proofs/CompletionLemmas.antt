@@ -20,6 +20,7 @@ use Rattle.san_net.specs.declared.activity.Activity.{Activity}
 use Rattle.san_net.specs.declared.part.Part.{Part}
 use Rattle.san_net.specs.declared.part.Slot.{Slot}
 use Rattle.san_net.proofs.CellLemmas.{cells_are}
+use Rattle.san_seq.proofs.FlaggedLemmas.{set_other, set_same}
 
 -- the case and the marking with the leaf's new values; a trap leaves the marking as it was
 abbrev pub values_left : List ℕ → List ℕ → Result Effected Trap → Result ℕ Trap × List ℕ
@@ -88,22 +89,10 @@ set_front (suc n) [] k v = refl
 set_front (suc n) (x ∷ xs) zero v = refl
 set_front (suc n) (x ∷ xs) (suc k) v = ap (λ (ys : List ℕ). x ∷ ys) (set_front n xs k v)
 
-get_same : (values : List ℕ) (k v : ℕ) → k < length values → slice_get (slice_set values k v) k ≡ Some v
-get_same [] k v h = absurd (omega (arith, h))
-get_same (x ∷ xs) zero v h = refl
-get_same (x ∷ xs) (suc k) v h = get_same xs k v (omega (arith, h))
-
-get_other : (values : List ℕ) (k p v : ℕ) → p ≢ k → slice_get (slice_set values k v) p ≡ slice_get values p
-get_other [] k p v n = refl
-get_other (x ∷ xs) zero zero v n = absurd (n refl)
-get_other (x ∷ xs) zero (suc p) v n = refl
-get_other (x ∷ xs) (suc k) zero v n = refl
-get_other (x ∷ xs) (suc k) (suc p) v n = get_other xs k p v (λ e. n (ap suc e))
-
 own_at : (values : List ℕ) (k v p : ℕ) → k < length values → (p ≡ k) ⊎ (p ≢ k) → slice_get (slice_set values k v) p ≡ with (λ q. slice_get values q) k v p
 own_at values k v p h (inl e) =
-    ap (slice_get (slice_set values k v)) e ∙ get_same values k v h ∙ sym (ap (λ (b : Bool). cond b (Some v) (slice_get values p)) (eq-eqb p k e))
-own_at values k v p h (inr n) = get_other values k p v n ∙ sym (ap (λ (b : Bool). cond b (Some v) (slice_get values p)) (ne_eqb p k n))
+    ap (slice_get (slice_set values k v)) e ∙ set_same values k v h ∙ sym (ap (λ (b : Bool). cond b (Some v) (slice_get values p)) (eq-eqb p k e))
+own_at values k v p h (inr n) = set_other values k p v n ∙ sym (ap (λ (b : Bool). cond b (Some v) (slice_get values p)) (ne_eqb p k n))
 
 -- an assignment to a view of these values
 set_plain : (values : List ℕ) (k v : ℕ) → k < length values → plain (slice_set values k v) ≡ assigned (plain values) k v

@@ -22,7 +22,7 @@ use Rattle.san_net.specs.declared.part.Part.{Part}
 use Rattle.san_law.specs.Clocks.{renewed_row, some_pair}
 use Rattle.san_seq.specs.declared.stale.Stale.{Stale}
 use Rattle.san_seq.specs.declared.concern.Concern.TheVariants as concern
-use Rattle.san_seq.specs.inner.Known.{AreFresh, AreIdle, AreQuiet, AreSettled, AreTouched, HasFlags, HaveSame, IsAtRest, SeesSame}
+use Rattle.san_seq.specs.inner.Known.{AreAsleep, AreFresh, AreIdle, AreQuiet, AreSettled, AreTouched, HasFlags, HaveSame, IsAtRest, SeesSame, WakesUp}
 use Rattle.san_seq.specs.inner.Nexts.{first_by, first_from, first_of_part, next_among}
 use Rattle.san_seq.specs.inner.States.{instant_in}
 use Rattle.san_seq.specs.inner.Wakes.{AreWoken, EachWeight, Stands, Woken, bands_at, level}
@@ -33,6 +33,7 @@ use Rattle.san_base.specs.declared.ending.Ending.{Ending}
 use Rattle.san_base.specs.declared.ending.Event.{Event}
 use Rattle.san_seq.proofs.AlikeLemmas.{pair_all, rest_alike}
 use Rattle.san_seq.proofs.AnswerLemmas.{Happening, happened, happening_by}
+use Rattle.san_seq.proofs.AwakeLemmas.{asleep_after}
 use Rattle.san_seq.proofs.NextLemmas.{cut}
 use Rattle.san_net.proofs.CellLemmas.{gather_eq}
 use Rattle.san_net.proofs.PartLemmas.{lies_over, part_is, places_are}
@@ -241,13 +242,14 @@ module _ (n : Network) (draw : ℕ → ℕ → ℕ) (bounds : Bounds) (w : Woken
       row : row_at v.rows i ≡ row_at u.rows i
       row = ap (λ (rs : List Row). row_at rs i) moved.rows ∙ get_or-set_other u.rows j i moved.row no_row other
 
-  pub idle_after : slice_get new.timers j ≡ Some true → HaveSame old.places u.stable u.marking
+  pub idle_after : slice_get new.timers j ≡ Some true → WakesUp n j old.awake new.awake → IsLaid (net_of n draw bounds) (length n.initial) → AreAsleep n old.awake u.marking → HaveSame old.places u.stable u.marking
       → (old.settled ≡ true → AreSettled n.parts u.stable)
       → ((i : ℕ) (p : Part) → i ≢ j → slice_get n.parts i ≡ Some p → slice_get old.timers i ≡ Some false → IsAtRest p u.stable u.marking (row_at u.rows i))
       → AreIdle n w new v
-  idle_after own places settled timers = record {
+  idle_after own wakes lies asleep places settled timers = record {
     woken = woken;
-    flags = record { timers = touched.timers.sized ∙ flags.timers; places = touched.places.sized ∙ flags.places };
+    flags = record { timers = touched.timers.sized ∙ flags.timers; places = touched.places.sized ∙ flags.places; awake = wakes.sized ∙ flags.awake };
+    asleep = asleep_after n draw bounds lies j moved.values u.marking v.marking within moved.marking old.awake new.awake asleep wakes;
     places = places_after places;
     settled = λ e. subst (AreSettled n.parts) (sym moved.stable) (settled (sym touched.settled ∙ e));
     timers = timers_after own timers;
@@ -267,10 +269,11 @@ both : (b : Bool) → b ≡ true → b ≡ false → {A : Type 0} → A
 both b e f = cc
 
 pub all_are_stale : (n : Network) (w : Woken) (stale : Stale) (s : State) → AreWoken n w → stale.settled ≡ false → stale.timers ≡ replicate (length n.parts) true → stale.places ≡ replicate (length n.initial) false
-    → s.stable ≡ s.marking → AreIdle n w stale s
-all_are_stale n w stale s woken a b c same = record {
+    → stale.awake ≡ replicate (length n.parts) true → s.stable ≡ s.marking → AreIdle n w stale s
+all_are_stale n w stale s woken a b c d same = record {
   woken = woken;
-  flags = record { timers = ap length b ∙ length_replicate (length n.parts) true; places = ap length c ∙ length_replicate (length n.initial) false };
+  flags = record { timers = ap length b ∙ length_replicate (length n.parts) true; places = ap length c ∙ length_replicate (length n.initial) false; awake = ap length d ∙ length_replicate (length n.parts) true };
+  asleep = λ j p at down. all_up (length n.parts) j (ap (λ (xs : List Bool). slice_get xs j) (sym d) ∙ down);
   places = λ q down. ap (λ (xs : List ℕ). slice_index xs q) same;
   settled = λ e. both stale.settled e a;
   timers = λ j p at down. all_up (length n.parts) j (ap (λ (xs : List Bool). slice_get xs j) (sym b) ∙ down);
@@ -300,17 +303,17 @@ touched_over w places stable m a b old new e f so =
     subst (λ (x : List ℕ). AreTouched w places x m old new) e (subst (λ (y : List ℕ). AreTouched w places a y old new) f so)
 
 module _ (n : Network) (draw : ℕ → ℕ → ℕ) (bounds : Bounds) (w : Woken) (lies : (d : ℕ → ℕ → ℕ) (b : Bounds) → IsLaid (net_of n d b) (length n.initial)) (j k : ℕ) (h : j < length n.parts) (v : State) (a b : List ℕ) (old new : Stale)
-    (at_a : a ≡ v.stable) (at_b : b ≡ v.marking) (woken : AreWoken n w) (flags : HasFlags n old) (own : slice_get new.timers j ≡ Some true)
+    (at_a : a ≡ v.stable) (at_b : b ≡ v.marking) (woken : AreWoken n w) (flags : HasFlags n old) (own : slice_get new.timers j ≡ Some true) (wakes : WakesUp n j old.awake new.awake)
     (touched : (p : Part) → slice_get n.parts j ≡ Some p → AreTouched w (places_of p) a b old new) where
-  pub timed_known : (s : State) (d : Due) (u : State) (t : Happening) → d.leaf ≡ j → length s.marking ≡ length n.initial → u ≡ law.fired (net_of n draw bounds) s s.rows d → AreQuiet n.parts s.marking s.rows
+  pub timed_known : (s : State) (d : Due) (u : State) (t : Happening) → d.leaf ≡ j → length s.marking ≡ length n.initial → u ≡ law.fired (net_of n draw bounds) s s.rows d → AreAsleep n old.awake s.marking → AreQuiet n.parts s.marking s.rows
       → v ≡ (law.fire (net_of n draw bounds) u j k).1 → happening_by (law.fire (net_of n draw bounds) u j k).0 ≡ Ok t → AreIdle n w new v
-  timed_known s d u t leaf sized is quiet left answered =
+  timed_known s d u t leaf sized is asleep quiet left answered =
       let net = net_of n draw bounds in
       let part = cut n.parts j h in
       let moved_u : Moved net j u v = subst (Moved net j u) (sym left) (fire_moved net u j k t answered) in
       let moved : Moved net j (law.fired net s s.rows d) v = subst (λ (x : State). Moved net j x v) is moved_u in
       idle_after n draw bounds w j part.0 (law.fired net s s.rows d) v old new part.1 sized (places_within n s.marking sized lies) moved woken flags
-      (touched_over w (places_of part.0) v.stable v.marking a b old new at_a at_b (touched part.0 part.1)) own
+      (touched_over w (places_of part.0) v.stable v.marking a b old new at_a at_b (touched part.0 part.1)) own wakes (lies draw bounds) asleep
       (λ q down. refl)
       (λ e i p at. (quiet i p at).0)
       (λ i p other at down.
@@ -325,5 +328,5 @@ module _ (n : Network) (draw : ℕ → ℕ → ℕ) (bounds : Bounds) (w : Woken
       let moved_u : Moved net j u v = subst (Moved net j u) (sym left) (instant_moved n draw bounds u j k t answered) in
       let moved : Moved net j s v = subst (λ (x : State). Moved net j x v) is moved_u in
       idle_after n draw bounds w j part.0 s v old new part.1 sized (places_within n s.marking sized lies) moved woken flags
-      (touched_over w (places_of part.0) v.stable v.marking a b old new at_a at_b (touched part.0 part.1)) own
+      (touched_over w (places_of part.0) v.stable v.marking a b old new at_a at_b (touched part.0 part.1)) own wakes (lies draw bounds) known.asleep
       known.places known.settled (λ i p other at down. known.timers i p at down)

@@ -1,5 +1,6 @@
 pub mod AlikeLemmas
 pub mod AnswerLemmas
+pub mod AwakeLemmas
 pub mod BandLemmas
 pub mod CompletionLemmas
 pub mod DueLemmas
@@ -8,6 +9,7 @@ pub mod HeldLemmas
 pub mod KnownLemmas
 pub mod LeafCompletionLemmas
 pub mod LimitLemmas
+pub mod LooksLemmas
 pub mod NextLaws
 pub mod NextLemmas
 pub mod OpenLemmas

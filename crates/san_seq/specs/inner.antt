@@ -4,6 +4,7 @@ pub mod Firsts
 pub mod Flagged
 pub mod Held
 pub mod Known
+pub mod Looks
 pub mod Nexts
 pub mod Openings
 pub mod Renewals

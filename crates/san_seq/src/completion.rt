@@ -1,6 +1,6 @@
 //! The completion of a leaf's activity over the marking.
 
-ghost use Rattle.std.specs.Prelude.{◌≡◌, ◌≤◌, ◌<◌, ◌+◌, ◌*◌, IfErr, IfOk, Some, length, map, slice_get, slice_index, take, ℕ};
+ghost use Rattle.std.specs.Prelude.{◌≡◌, ◌≤◌, ◌<◌, ◌+◌, ◌*◌, IfErr, IfOk, Some, [], length, map, slice_get, slice_index, take, ℕ};
 ghost use Rattle.san_base.specs.declared.limits.TheConstants.{MAX_CELLS, MAX_DRAWS};
 ghost use Rattle.san_draw.specs.Key.{draw_of};
 ghost use Rattle.san_expr.specs.View.{ReadsCell, ViewState, assigned, plain};
@@ -60,13 +60,15 @@ fn fill(slots: &[Slot], marking: &[u32], values: &mut [u32])
 
 impl Room {
     /// Takes the memory for the cells of a leaf.
-    pub(crate) fn open(alloc: Global) -> Result<Room, NoMemory> {
+    pub(crate) fn open(alloc: Global) -> Result<Room, NoMemory>
+        ensures { IfOk result (λ r. r ≡ []) }
+    {
         let values = zeros(alloc)?;
         Ok(Room { values, many: 0 })
     }
 
     /// Takes a copy of a leaf's cells.
-    fn load(&mut self, slots: &[Slot], marking: &[u32])
+    pub(crate) fn load(&mut self, slots: &[Slot], marking: &[u32])
         requires few { length slots.now ≤ MAX_CELLS }
         requires over { AllBelow (map place_of slots.now) (length marking.now) }
         ensures { self.new ≡ gather (map place_of slots.now) marking.now }
@@ -75,14 +77,21 @@ impl Room {
         self.many = slots.len();
     }
 
+    /// The copy.
+    pub(crate) fn as_slice(&self) -> &[u32]
+        ensures { result.now ≡ self.now }
+    {
+        let values = self.values.as_slice();
+        &values[..self.many]
+    }
+
     /// Puts the copy back.
     fn store(&self, slots: &[Slot], marking: &mut [u32])
         requires each { length self.now ≡ length slots.now }
         requires over { LiesOver (map place_of slots.now) marking.old }
         ensures { marking.new ≡ scatter (map place_of slots.now) self.now marking.old }
     {
-        let values = self.values.as_slice();
-        scatter(slots, &values[..self.many], marking);
+        scatter(slots, self.as_slice(), marking);
     }
 }
 

@@ -4,11 +4,12 @@
 //!
 //! | Part of it | Costs |
 //! |---|---|
-//! | the next instantaneous activity | a test of the leaf that completed last, and for each place that has another value than at the last stable point one of each leaf with an arc whose weight this crosses, or with a gate that names it, up to the first that has something; before the first timer fires, a test of each leaf |
+//! | the next instantaneous activity | a test of the leaf that completed last, and for each place that has another value than at the last stable point one of each leaf with an arc whose weight this crosses, or with a gate that names it, up to the first that has something; where few leaves are awake, of these in place of the band's, which takes log n each; before the first timer fires, a test of each leaf |
 //! | renewal | that of each leaf whose timers hang on such an arc or gate |
 //! | the timer that is due first | looked up; log n for each leaf whose least timer has changed |
 //! | the last stable marking | a copy of each value that has changed |
-//! | a completion | a copy of its leaf's cells, and for each of them that has changed a flag, a test of each weight of timers' arcs there, and a flag for each leaf of those that are crossed |
+//! | which leaves are asleep | a test of each leaf that was renewed, and log n where it falls asleep |
+//! | a completion | a copy of its leaf's cells, and for each of them that has changed a flag, a test of each weight of timers' arcs there, and a flag for each leaf of those that are crossed; log n where the leaf wakes |
 #![tactic(auto)]
 
 mod bands;

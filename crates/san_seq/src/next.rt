@@ -9,8 +9,8 @@ ghost use Rattle.san_net.specs.Accepted.{IsAccepted};
 ghost use Rattle.san_net.specs.Laid.{places_of};
 ghost use Rattle.san_net.specs.Leaf.{found_by, first_in};
 ghost use Rattle.san_law.specs.Net.{Nothing};
-ghost use Rattle.san_seq.specs.inner.Firsts.{AreEarlier, AreEarlierBy, EachEarlier, IsEarlier, IsFirst};
-ghost use Rattle.san_seq.specs.inner.Known.{AreSettled, HaveSame};
+ghost use Rattle.san_seq.specs.inner.Firsts.{AreEarlier, AreEarlierBy, EachEarlier, IsEarlier, IsFirst, IsFound};
+ghost use Rattle.san_seq.specs.inner.Known.{AreAsleep, AreSettled, HasFlags, HaveSame};
 ghost use Rattle.san_seq.specs.inner.Nexts.{first_by, first_from, next_among, next_in};
 ghost use Rattle.san_seq.specs.inner.Wakes.{AreOrdered, AreWoken, EachOrdered};
 
@@ -19,6 +19,7 @@ use crate::stale::{Flagged, Stale};
 use crate::wakes::{Band, Wakes};
 use san_base::{LeafId, PlaceId, Trap};
 use san_net::{FirstInstant, Flat, LeafCells, Part, first_instant};
+use san_winner::Flags;
 
 /// Which instantaneous activity completes next: its leaf, and its number in the leaf.
 #[derive(Clone, Copy, Debug, PartialEq, Eq)]
@@ -111,9 +112,67 @@ fn first_among(flat: &Flat, leaves: &[LeafId], first: First, marking: &[u32]) ->
     first
 }
 
+/// The same of all leaves, if those that are awake come to an end after so many. The others have
+/// nothing.
+fn first_awake(
+    flat: &Flat,
+    awake: &Flags,
+    most: usize,
+    first: First,
+    marking: &[u32],
+) -> Option<First>
+    requires first { IsFirst flat.now.parts marking.now first }
+    requires flags { length awake.now ≡ length flat.now.parts }
+    requires asleep { AreAsleep flat.now awake.now marking.now }
+    requires sized { length marking.now ≡ length flat.now.initial }
+    ensures { IfSome result (IsFound flat.now.parts marking.now first.leaf.0) }
+{
+    flat.is_network();
+    let mut from = 0;
+    'leaves: for _ in 0..most {
+        let Some(at) = awake.next(from) else {
+            return Some(first);
+        };
+        if at >= first.leaf.0 as usize {
+            return Some(first);
+        }
+        let leaf = LeafId(at as u32);
+        if let Some(next) = first_at(flat, leaf, marking) {
+            return Some(First { leaf, next });
+        }
+        from = at + 1;
+    }
+    None
+}
+
+/// The same of a crossed band's leaves. Where few leaves are awake these are asked in place of the
+/// band's, most of which something of their own may block.
+fn first_of_crossed(
+    flat: &Flat,
+    awake: &Flags,
+    leaves: &[LeafId],
+    first: First,
+    marking: &[u32],
+) -> First
+    requires first { IsFirst flat.now.parts marking.now first }
+    requires flags { length awake.now ≡ length flat.now.parts }
+    requires asleep { AreAsleep flat.now awake.now marking.now }
+    requires ordered { AreOrdered (length flat.now.parts) leaves.now }
+    requires sized { length marking.now ≡ length flat.now.initial }
+    ensures first { IsFirst flat.now.parts marking.now result }
+    ensures sooner { result.leaf.0 ≤ first.leaf.0 }
+    ensures none { AreEarlier flat.now.parts marking.now leaves.now result.leaf.0 }
+{
+    match first_awake(flat, awake, leaves.len() / 4, first, marking) {
+        Some(found) => found,
+        None => first_among(flat, leaves, first, marking),
+    }
+}
+
 /// The same of a band's leaves, where a change of its place concerns them.
 fn first_of_band(
     flat: &Flat,
+    awake: &Flags,
     band: &Band,
     was: u32,
     is: u32,
@@ -121,6 +180,8 @@ fn first_of_band(
     marking: &[u32],
 ) -> First
     requires first { IsFirst flat.now.parts marking.now first }
+    requires flags { length awake.now ≡ length flat.now.parts }
+    requires asleep { AreAsleep flat.now awake.now marking.now }
     requires ordered { AreOrdered (length flat.now.parts) band.now.leaves.items }
     requires sized { length marking.now ≡ length flat.now.initial }
     ensures first { IsFirst flat.now.parts marking.now result }
@@ -128,7 +189,7 @@ fn first_of_band(
     ensures none { AreEarlierBy flat.now.parts band.now was is marking.now result.leaf.0 }
 {
     if band.is_crossed(was, is) {
-        first_among(flat, &band.leaves, first, marking)
+        first_of_crossed(flat, awake, &band.leaves, first, marking)
     } else {
         first
     }
@@ -137,6 +198,7 @@ fn first_of_band(
 /// The same of the bands of a place.
 fn first_of_bands(
     flat: &Flat,
+    awake: &Flags,
     bands: &[Band],
     was: u32,
     is: u32,
@@ -144,6 +206,8 @@ fn first_of_bands(
     marking: &[u32],
 ) -> First
     requires first { IsFirst flat.now.parts marking.now first }
+    requires flags { length awake.now ≡ length flat.now.parts }
+    requires asleep { AreAsleep flat.now awake.now marking.now }
     requires ordered { EachOrdered (length flat.now.parts) bands.now }
     requires sized { length marking.now ≡ length flat.now.initial }
     ensures first { IsFirst flat.now.parts marking.now result }
@@ -152,7 +216,7 @@ fn first_of_bands(
 {
     let mut first = first;
     'bands: for k in 0..bands.len() {
-        first = first_of_band(flat, &bands[k], was, is, first, marking);
+        first = first_of_band(flat, awake, &bands[k], was, is, first, marking);
     }
     first
 }
@@ -162,11 +226,14 @@ fn first_of_bands(
 fn first_of_place(
     flat: &Flat,
     wakes: &Wakes,
+    awake: &Flags,
     place: PlaceId,
     first: First,
     markings: &Markings<'_>,
 ) -> First
     requires first { IsFirst flat.now.parts markings.now.present.now first }
+    requires flags { length awake.now ≡ length flat.now.parts }
+    requires asleep { AreAsleep flat.now awake.now markings.now.present.now }
     requires place { place.0 < length flat.now.initial }
     requires woken { AreWoken flat.now wakes.now }
     requires present { length markings.now.present.now ≡ length flat.now.initial }
@@ -183,15 +250,23 @@ fn first_of_place(
         return first;
     }
     let bands = wakes.instants(place);
-    first_of_bands(flat, bands, was, is, first, markings.present)
+    first_of_bands(flat, awake, bands, was, is, first, markings.present)
 }
 
 /// The first leaf's that has one, in order, where the last stable marking was one: only leaves that
 /// hang on a place with another value can have something.
-fn first_of_changed(flat: &Flat, wakes: &Wakes, places: &Flagged, markings: &Markings<'_>) -> Next
+fn first_of_changed(
+    flat: &Flat,
+    wakes: &Wakes,
+    awake: &Flags,
+    places: &Flagged,
+    markings: &Markings<'_>,
+) -> Next
     requires settled { AreSettled flat.now.parts markings.now.stable.now }
     requires same { HaveSame places.now markings.now.stable.now markings.now.present.now }
-    requires flags { length places.now ≡ length flat.now.initial }
+    requires places { length places.now ≡ length flat.now.initial }
+    requires flags { length awake.now ≡ length flat.now.parts }
+    requires asleep { AreAsleep flat.now awake.now markings.now.present.now }
     requires woken { AreWoken flat.now wakes.now }
     requires present { length markings.now.present.now ≡ length flat.now.initial }
     requires stable { length markings.now.stable.now ≡ length flat.now.initial }
@@ -205,7 +280,7 @@ fn first_of_changed(flat: &Flat, wakes: &Wakes, places: &Flagged, markings: &Mar
     let changed = places.list();
     'places: for k in 0..changed.len() {
         let place = PlaceId(changed[k] as u32);
-        first = first_of_place(flat, wakes, place, first, markings);
+        first = first_of_place(flat, wakes, awake, place, first, markings);
     }
     first.next
 }
@@ -215,14 +290,15 @@ fn first_in_order(flat: &Flat, wakes: &Wakes, stale: &Stale, markings: &Markings
     requires settled { stale.now.settled ≡ true → AreSettled flat.now.parts
         markings.now.stable.now }
     requires same { HaveSame stale.now.places markings.now.stable.now markings.now.present.now }
-    requires flags { length stale.now.places ≡ length flat.now.initial }
+    requires flags { HasFlags flat.now stale.now }
+    requires asleep { AreAsleep flat.now stale.now.awake markings.now.present.now }
     requires woken { AreWoken flat.now wakes.now }
     requires present { length markings.now.present.now ≡ length flat.now.initial }
     requires stable { length markings.now.stable.now ≡ length flat.now.initial }
     ensures { next_in result ≡ first_from 0 markings.now.present.now flat.now.parts }
 {
     if stale.settled {
-        first_of_changed(flat, wakes, &stale.places, markings)
+        first_of_changed(flat, wakes, &stale.awake, &stale.places, markings)
     } else {
         first_of_all(flat, markings.present)
     }
@@ -240,7 +316,8 @@ pub(crate) fn next_instant(
     requires settled { stale.now.settled ≡ true → AreSettled flat.now.parts
         markings.now.stable.now }
     requires same { HaveSame stale.now.places markings.now.stable.now markings.now.present.now }
-    requires flags { length stale.now.places ≡ length flat.now.initial }
+    requires flags { HasFlags flat.now stale.now }
+    requires asleep { AreAsleep flat.now stale.now.awake markings.now.present.now }
     requires woken { AreWoken flat.now wakes.now }
     requires last { IfSome last (λ leaf. leaf.0 < length flat.now.parts) }
     requires present { length markings.now.present.now ≡ length flat.now.initial }

@@ -5,12 +5,13 @@ ghost use Rattle.std.specs.Prelude.{◌≡◌, ◌+◌, ◌<◌, ◌∷◌, ℕ,
 ghost use Rattle.san_net.specs.Laid.{places_of};
 ghost use Rattle.san_net.specs.declared.part.Part.{Part};
 ghost use Rattle.san_seq.specs.inner.Flagged.{AreListed, IsListed};
-ghost use Rattle.san_seq.specs.inner.Known.{AreRaised, AreTouched, HasFlags, HaveFlags, HaveSame, Raised};
+ghost use Rattle.san_seq.specs.inner.Known.{AreAsleep, AreRaised, AreTouched, HasFlags, HaveFlags, HaveSame, Raised, WakesUp};
 ghost use Rattle.san_seq.specs.inner.Wakes.{AreOrdered, AreWoken, EachOrdered};
 
-use crate::wakes::{Band, Wakes};
+use crate::wakes::{Band, Looks, Wakes, is_asleep};
 use san_base::{LeafId, NoMemory, PlaceId};
 use san_net::Flat;
+use san_winner::Flags;
 use std::alloc::{AllocError, Global};
 use std::marker::Model;
 
@@ -137,6 +138,9 @@ pub(crate) struct Stale {
     pub(crate) timers: Flagged,
     /// For each place whether its value may differ from that at the last stable point.
     pub(crate) places: Flagged,
+    /// For each leaf whether something may become enabled there by places that others have too.
+    pub(crate) awake: Flags,
+    looks: Looks,
 }
 
 /// Puts up all of so many flags.
@@ -150,21 +154,27 @@ fn raise_all(flags: &mut Flagged, many: usize)
 }
 
 impl Stale {
-    /// At the initial marking, which counts as the last stable one, no place has changed, and all
-    /// timers are to be renewed.
+    /// At the initial marking, which counts as the last stable one, no place has changed, all timers
+    /// are to be renewed, and all leaves are awake.
     pub(crate) fn open(alloc: Global, flat: &Flat) -> Result<Stale, NoMemory>
         ensures settled { IfOk result (λ s. s.settled ≡ false) }
         ensures timers { IfOk result (λ s. s.timers ≡ replicate (length flat.now.parts) true) }
         ensures places { IfOk result (λ s. s.places ≡ replicate (length flat.now.initial) false) }
+        ensures awake { IfOk result (λ s. s.awake ≡ replicate (length flat.now.parts) true) }
     {
+        flat.is_network();
         let leaves = flat.leaves() as usize;
         let mut timers = Flagged::open(alloc, leaves)?;
         raise_all(&mut timers, leaves);
         let places = Flagged::open(alloc, flat.places() as usize)?;
+        let awake = Flags::open(alloc, leaves)?;
+        let looks = Looks::open(alloc)?;
         Ok(Stale {
             settled: false,
             timers,
             places,
+            awake,
+            looks,
         })
     }
 }
@@ -208,7 +218,9 @@ fn touch_place(wakes: &Wakes, place: PlaceId, stable: &[u32], marking: &[u32], s
     requires place { place.0 < length stable.now }
     requires stable { length stable.now ≡ length stale.old.places }
     requires marking { length marking.now ≡ length stale.old.places }
-    ensures { AreTouched wakes.now (place.0 ∷ []) stable.now marking.now stale.old stale.new }
+    ensures touched { AreTouched wakes.now (place.0 ∷ []) stable.now marking.now stale.old
+        stale.new }
+    ensures awake { stale.new.awake ≡ stale.old.awake }
 {
     let at = place.0 as usize;
     let was = stable[at];
@@ -221,6 +233,45 @@ fn touch_place(wakes: &Wakes, place: PlaceId, stable: &[u32], marking: &[u32], s
 
 /// The timers of a leaf that completed are stale. So is each place of it that has another value than
 /// at the last stable point, with the timers of all leaves that this concerns.
+fn touch_places(
+    flat: &Flat,
+    wakes: &Wakes,
+    leaf: LeafId,
+    stable: &[u32],
+    marking: &[u32],
+    stale: &mut Stale,
+)
+    requires leaf { leaf.0 < length flat.now.parts }
+    requires stable { length stable.now ≡ length flat.now.initial }
+    requires marking { length marking.now ≡ length flat.now.initial }
+    requires woken { AreWoken flat.now wakes.now }
+    requires flags { HasFlags flat.now stale.old }
+    ensures touched { (p : Part) → slice_get flat.now.parts leaf.0 ≡ Some p → AreTouched wakes.now
+        (places_of p) stable.now marking.now stale.old stale.new }
+    ensures own { slice_get stale.new.timers leaf.0 ≡ Some true }
+    ensures awake { stale.new.awake ≡ stale.old.awake }
+{
+    flat.is_network();
+    let slots = flat.part(leaf).get().slots.as_slice();
+    stale.timers.raise(leaf.0 as usize);
+    'cells: for k in 0..slots.len() {
+        touch_place(wakes, slots[k].place(), stable, marking, stale);
+    }
+}
+
+/// A leaf is awake, unless it has no instantaneous activity.
+fn wake(flat: &Flat, leaf: LeafId, awake: &mut Flags)
+    requires leaf { leaf.0 < length flat.now.parts }
+    requires flags { length awake.old ≡ length flat.now.parts }
+    ensures { WakesUp flat.now leaf.0 awake.old awake.new }
+{
+    let atomic = flat.part(leaf).get().atomic.get();
+    if !atomic.instants.as_slice().is_empty() {
+        awake.set(leaf.0 as usize, true);
+    }
+}
+
+/// What is stale by the completion of a leaf's activity; the leaf is awake.
 pub(crate) fn touch(
     flat: &Flat,
     wakes: &Wakes,
@@ -237,13 +288,10 @@ pub(crate) fn touch(
     ensures touched { (p : Part) → slice_get flat.now.parts leaf.0 ≡ Some p → AreTouched wakes.now
         (places_of p) stable.now marking.now stale.old stale.new }
     ensures own { slice_get stale.new.timers leaf.0 ≡ Some true }
+    ensures awake { WakesUp flat.now leaf.0 stale.old.awake stale.new.awake }
 {
-    flat.is_network();
-    let slots = flat.part(leaf).get().slots.as_slice();
-    stale.timers.raise(leaf.0 as usize);
-    'cells: for k in 0..slots.len() {
-        touch_place(wakes, slots[k].place(), stable, marking, stale);
-    }
+    wake(flat, leaf, &mut stale.awake);
+    touch_places(flat, wakes, leaf, stable, marking, stale);
 }
 
 /// Copies a place's value.
@@ -268,6 +316,37 @@ fn catch_up(places: &Flagged, marking: &[u32], stable: &mut [u32])
     }
 }
 
+/// A leaf that is asleep isn't awake any more.
+fn doze(flat: &Flat, looks: &mut Looks, awake: &mut Flags, leaf: LeafId, marking: &[u32])
+    requires leaf { leaf.0 < length flat.now.parts }
+    requires flags { length awake.old ≡ length flat.now.parts }
+    requires marking { length marking.now ≡ length flat.now.initial }
+    requires asleep { AreAsleep flat.now awake.old marking.now }
+    ensures flags { length awake.new ≡ length flat.now.parts }
+    ensures asleep { AreAsleep flat.now awake.new marking.now }
+{
+    if is_asleep(flat, looks, leaf, marking) {
+        awake.set(leaf.0 as usize, false);
+    }
+}
+
+/// The same of some leaves.
+fn doze_all(flat: &Flat, leaves: &Flagged, looks: &mut Looks, awake: &mut Flags, marking: &[u32])
+    requires leaves { length leaves.now ≡ length flat.now.parts }
+    requires flags { length awake.old ≡ length flat.now.parts }
+    requires marking { length marking.now ≡ length flat.now.initial }
+    requires asleep { AreAsleep flat.now awake.old marking.now }
+    ensures flags { length awake.new ≡ length flat.now.parts }
+    ensures asleep { AreAsleep flat.now awake.new marking.now }
+{
+    flat.is_network();
+    let list = leaves.list();
+    'leaves: for k in 0..list.len() {
+        let leaf = LeafId(list[k] as u32);
+        doze(flat, looks, awake, leaf, marking);
+    }
+}
+
 /// The present marking is the last stable one, since nothing is enabled in it at once and all timers
 /// are as they are to be. Nothing is stale any more.
 pub(crate) fn settle(flat: &Flat, stale: &mut Stale, marking: &[u32], stable: &mut [u32])
@@ -275,10 +354,19 @@ pub(crate) fn settle(flat: &Flat, stale: &mut Stale, marking: &[u32], stable: &m
     requires marking { length marking.now ≡ length flat.now.initial }
     requires stable { length stable.old ≡ length flat.now.initial }
     requires same { HaveSame stale.old.places stable.old marking.now }
+    requires asleep { AreAsleep flat.now stale.old.awake marking.now }
     ensures stable { stable.new ≡ marking.now }
     ensures flags { HasFlags flat.now stale.new }
+    ensures asleep { AreAsleep flat.now stale.new.awake marking.now }
 {
     catch_up(&stale.places, marking, stable);
+    doze_all(
+        flat,
+        &stale.timers,
+        &mut stale.looks,
+        &mut stale.awake,
+        marking,
+    );
     stale.settled = true;
     stale.timers.clear();
     stale.places.clear();

@@ -20,7 +20,7 @@ ghost use Rattle.san_net.specs.Network.{net_of};
 ghost use Rattle.san_base.specs.Limits.{IsInRange};
 ghost use Rattle.san_base.specs.declared.limits.TheConstants.{MAX_TIME};
 ghost use Rattle.san_seq.specs.inner.Dues.{due_in};
-ghost use Rattle.san_seq.specs.inner.Known.{AreFresh, AreIdle, AreQuiet, AreSettled, HasFlags, HaveSame};
+ghost use Rattle.san_seq.specs.inner.Known.{AreAsleep, AreFresh, AreIdle, AreQuiet, AreSettled, HasFlags, HaveSame};
 ghost use Rattle.san_seq.specs.inner.Nexts.{next_in};
 ghost use Rattle.san_net.specs.Runs.{limits_in};
 ghost use Rattle.san_seq.specs.inner.Rows.{AreDrawn, AreRows, IsLike, renewal_by, row_at};
@@ -118,6 +118,7 @@ fn at_due(
     requires woken { AreWoken flat.now wakes.now }
     requires flags { HasFlags flat.now stale.old }
     requires same { HaveSame stale.old.places state.old.stable state.old.marking }
+    requires asleep { AreAsleep flat.now stale.old.awake state.old.marking }
     requires quiet { AreQuiet flat.now.parts state.old.marking state.old.rows }
     requires streams { 2 * acts_of flat.now.parts ≤ streams.old.streams }
     ensures steps { (s : law_state.State) → with_rows state.old.rows s ≡ state.old → Steps flat.now result
@@ -218,9 +219,11 @@ fn fire(flat: &Flat, stale: &mut Stale, due: Due, state: &mut State)
     requires marking { length state.old.marking ≡ length flat.now.initial }
     requires stable { length state.old.stable ≡ length flat.now.initial }
     requires same { HaveSame stale.old.places state.old.stable state.old.marking }
+    requires asleep { AreAsleep flat.now stale.old.awake state.old.marking }
     ensures fired { (net : Net) → state.new
         ≡ law_step.fired net state.old state.old.rows (due_in due) }
     ensures flags { HasFlags flat.now stale.new }
+    ensures asleep { AreAsleep flat.now stale.new.awake state.old.marking }
 {
     state.rows.drop_timer(due.leaf, due.act);
     settle(flat, stale, &state.marking, state.stable.as_mut_slice());

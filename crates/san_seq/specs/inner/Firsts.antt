@@ -15,6 +15,12 @@ pub record IsFirst (parts : List Part) (m : List ℕ) (f : First) : Type 0 where
   pub some : f.leaf.0 < length parts → (rest : law.Next) → law.found_at f.leaf.0 (first_by m (slice_get parts f.leaf.0)) rest ≡ next_in f.next
   pub none : length parts ≤ f.leaf.0 → next_in f.next ≡ law.Stable
 
+-- no leaf before it has anything
+pub record IsFound (parts : List Part) (m : List ℕ) (most : ℕ) (f : First) : Type 0 where
+  pub first : IsFirst parts m f
+  pub sooner : f.leaf.0 ≤ most
+  pub none : (j : ℕ) → j < f.leaf.0 → first_by m (slice_get parts j) ≡ net.Nothing
+
 -- those of some leaves that come before a number have nothing
 abbrev pub AreEarlier : List Part → List ℕ → List LeafId → ℕ → Type 0
 AreEarlier parts m leaves many = (k : ℕ) (leaf : LeafId) → slice_get leaves k ≡ Some leaf → leaf.0 < many → first_by m (slice_get parts leaf.0) ≡ net.Nothing

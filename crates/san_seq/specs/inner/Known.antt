@@ -1,5 +1,5 @@
 -- What flags that are down say: nothing on which a leaf's activities hang has changed since the last stable marking.
-use Rattle.std.specs.Prelude.{ℕ, ◌≡◌, Bool, true, false, List, length, Some, slice_get, slice_index}
+use Rattle.std.specs.Prelude.{ℕ, ◌≡◌, ◌≤◌, Bool, true, false, List, length, Some, slice_get, slice_index}
 use Rattle.san_base.specs.declared.numbers.LeafId.{LeafId}
 use Rattle.san_law.specs.Clocks.{IsSteady}
 use Rattle.san_law.specs.Net as net
@@ -29,15 +29,24 @@ AreSameOn x p stable m = (i q : ℕ) → slice_get (places_of p) i ≡ Some q �
 abbrev pub AreSettled : List Part → List ℕ → Type 0
 AreSettled parts m = (j : ℕ) (p : Part) → slice_get parts j ≡ Some p → first_of_part m p ≡ net.Nothing
 
+-- a leaf has nothing, whatever values those of its places have that other leaves have too
+abbrev pub IsAsleep : ℕ → Part → List ℕ → Type 0
+IsAsleep shared p m = (v : List ℕ) → ((i q : ℕ) → slice_get (places_of p) i ≡ Some q → shared ≤ q → slice_index v q ≡ slice_index m q) → first_of_part v p ≡ net.Nothing
+
+-- leaves that aren't awake are asleep
+abbrev pub AreAsleep : Network → List Bool → List ℕ → Type 0
+AreAsleep n awake m = (j : ℕ) (p : Part) → slice_get n.parts j ≡ Some p → slice_get awake j ≡ Some false → IsAsleep n.shared p m
+
 -- a leaf's timers stand just where they are to
 pub record IsAtRest (p : Part) (stable m : List ℕ) (r : net.Row) : Type 0 where
   pub steady : IsSteady (leaf_of p) (gather (places_of p) m) r
   pub same : AreSameOn concern.Timers p stable m
 
--- a flag for each leaf, and for each place
+-- flags for each leaf, and for each place
 pub record HasFlags (n : Network) (stale : Stale) : Type 0 where
   pub timers : length stale.timers ≡ length n.parts
   pub places : length stale.places ≡ length n.initial
+  pub awake : length stale.awake ≡ length n.parts
 
 -- places whose flags are down have the same values in both markings
 abbrev pub HaveSame : List Bool → List ℕ → List ℕ → Type 0
@@ -49,6 +58,7 @@ pub record AreIdle (n : Network) (w : Woken) (stale : Stale) (s : State) : Type 
   pub flags : HasFlags n stale
   pub places : HaveSame stale.places s.stable s.marking
   pub settled : stale.settled ≡ true → AreSettled n.parts s.stable
+  pub asleep : AreAsleep n stale.awake s.marking
   pub timers : (j : ℕ) (p : Part) → slice_get n.parts j ≡ Some p → slice_get stale.timers j ≡ Some false → IsAtRest p s.stable s.marking (row_at s.rows j)
 
 -- leaves that aren't stale have nothing to renew at a time
@@ -58,6 +68,12 @@ AreFresh draw parts stale time stable m rows = (j : ℕ) (p : Part) → slice_ge
 -- flags that are down were down before
 abbrev pub StayUp : List Bool → List Bool → Type 0
 StayUp old new = (j : ℕ) → slice_get new j ≡ Some false → slice_get old j ≡ Some false
+
+-- a leaf whose flag is still down has nothing in any marking
+pub record WakesUp (n : Network) (leaf : ℕ) (old new : List Bool) : Type 0 where
+  pub sized : length new ≡ length old
+  pub kept : StayUp old new
+  pub itself : (p : Part) → slice_get n.parts leaf ≡ Some p → slice_get new leaf ≡ Some false → (m : List ℕ) → IsAsleep n.shared p m
 
 -- and those of some leaves are up
 pub record Raised (leaves : List LeafId) (old new : List Bool) : Type 0 where

@@ -8,12 +8,12 @@ use Rattle.san_seq.proofs.next.first_of_changed.Goals as goal
 pub overflow_cast-place : goal.overflow_cast-place
 overflow_cast-place c =
     let here = slice_get-get_or c.list-changed.result.now c.places.k 0 c.places-test.true in
-    omega (arith, slice_get_within c.args.places.now _ _ (c.list-changed.ensures.up c.places.k _ here), c.requires.flags, c.is_network.ensures.network.small.places)
+    omega (arith, slice_get_within c.args.places.now _ _ (c.list-changed.ensures.up c.places.k _ here), c.requires.places, c.is_network.ensures.network.small.places)
 
 pub first_of_place-first-requires-clause-place : goal.first_of_place-first-requires-clause-place
 first_of_place-first-requires-clause-place c =
     let here = slice_get-get_or c.list-changed.result.now c.places.k 0 c.places-test.true in
-    omega (arith, slice_get_within c.args.places.now _ _ (c.list-changed.ensures.up c.places.k _ here), c.requires.flags)
+    omega (arith, slice_get_within c.args.places.now _ _ (c.list-changed.ensures.up c.places.k _ here), c.requires.places)
 
 pub places-preserved : goal.places-preserved
 places-preserved c =
@@ -37,4 +37,4 @@ returns c =
     let m = c.args.markings.now.present.now in
     let f = c.places.first in
     found_first n w stable m f c.is_network.ensures.network c.requires.woken c.requires.settled (places_within n n.initial refl c.is_network.ensures.laid) c.places.invariant.first
-    (λ q h. earlier_whole n.parts w stable m c.args.places.now c.list-changed.result.now c.places.k f.leaf.0 c.requires.same c.list-changed.ensures c.places-test.false c.places.invariant.none q (omega (arith, h, c.requires.flags)))
+    (λ q h. earlier_whole n.parts w stable m c.args.places.now c.list-changed.result.now c.places.k f.leaf.0 c.requires.same c.list-changed.ensures c.places-test.false c.places.invariant.none q (omega (arith, h, c.requires.places)))

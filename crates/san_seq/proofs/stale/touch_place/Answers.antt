@@ -3,8 +3,8 @@ use Rattle.san_seq.specs.inner.Known.{IsTouched}
 use Rattle.san_seq.proofs.TouchLemmas.{touched_itself, touched_raised}
 use Rattle.san_seq.proofs.stale.touch_place.Goals as goal
 
-pub returns-then-was-is : goal.returns-then-was-is
-returns-then-was-is c =
+pub returns-then-was-is-clause-touched : goal.returns-then-was-is-clause-touched
+returns-then-was-is-clause-touched c =
     let place = c.args.place.0 in
     let stable = c.args.stable.now in
     let m = c.args.marking.now in

@@ -94,8 +94,8 @@ returns-then-due-limits-clause-known c =
     if_answered c.complete_timed-answer.result n (fire net u d.leaf d.act).0 _ c.complete_timed-answer.ensures.answered
     (λ t e. timed_known n draw bounds c.args.wakes.now c.is_network.ensures.laid d.leaf d.act (omega (arith, c.requires.leaf, c.requires.drawn.rows.each)) v c.deref.result.now c.deref-then-due-limits.result.now c.fire.new.stale c.touch.new.stale
     (c.deref.ensures.value ∙ ap (λ (x : State). x.stable) c.state.view_is) (c.deref-then-due-limits.ensures.value ∙ ap (λ (x : State). x.marking) c.state.view_is)
-    c.requires.woken c.fire.ensures.flags c.touch.ensures.own c.touch.ensures.touched
-    c.args.state.now d u t refl c.requires.drawn.marking (c.fire.ensures.fired net) c.requires.quiet c.complete_timed-answer.ensures.left e)
+    c.requires.woken c.fire.ensures.flags c.touch.ensures.own c.touch.ensures.awake c.touch.ensures.touched
+    c.args.state.now d u t refl c.requires.drawn.marking (c.fire.ensures.fired net) c.fire.ensures.asleep c.requires.quiet c.complete_timed-answer.ensures.left e)
 
 pub fire-requires-clause-small : goal.fire-requires-clause-small
 fire-requires-clause-small c = λ j. rows_small c.args.flat.now c.args.state.now.rows c.is_network.ensures.network c.requires.drawn.rows j

@@ -12,7 +12,7 @@ use Rattle.san_net.specs.Runs.{ending_in, limits_in}
 use Rattle.san_seq.specs.inner.Rows.{renewal_by, row_at}
 use Rattle.san_seq.specs.inner.Running.{IsDrawn, Steps, with_rows}
 use Rattle.san_seq.proofs.RangeLemmas.{due_within, rows_small}
-use Rattle.san_seq.specs.inner.Known.{AreQuiet, HaveSame}
+use Rattle.san_seq.specs.inner.Known.{AreAsleep, AreQuiet, HaveSame}
 use Rattle.san_seq.proofs.KnownLemmas.{are_fresh, quiet_after}
 use Rattle.san_seq.proofs.RunningLemmas.{renewed_drawn}
 use Rattle.san_seq.proofs.WithinLemmas.{fault_within}
@@ -82,6 +82,10 @@ renew-requires-clause-idle c =
 pub at_due-requires-clause-same : goal.at_due-requires-clause-same
 at_due-requires-clause-same c =
     subst (λ (s : State). HaveSame c.args.stale.now.places s.stable s.marking) (sym (c.first_due.ensures.same ∙ c.renew.ensures.left)) c.requires.known.places
+
+pub at_due-requires-clause-asleep : goal.at_due-requires-clause-asleep
+at_due-requires-clause-asleep c =
+    subst (λ (s : State). AreAsleep c.args.flat.now c.args.stale.now.awake s.marking) (sym (c.first_due.ensures.same ∙ c.renew.ensures.left)) c.requires.known.asleep
 
 pub at_due-requires-clause-quiet : goal.at_due-requires-clause-quiet
 at_due-requires-clause-quiet c =

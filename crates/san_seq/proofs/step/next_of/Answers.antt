@@ -2,7 +2,7 @@ use Rattle.std.proofs.Common.{◌∙◌, ◌≡◌, ◌<◌, ap, subst, sym, ℕ
 use Rattle.std.specs.Option.{option_map}
 use Rattle.san_law.specs.State.{State}
 use Rattle.san_base.specs.declared.numbers.LeafId.{LeafId}
-use Rattle.san_seq.specs.inner.Known.{AreSettled, HaveSame}
+use Rattle.san_seq.specs.inner.Known.{AreAsleep, AreSettled, HaveSame}
 use Rattle.san_seq.proofs.NextLaws.{next_is}
 use Rattle.san_seq.proofs.step.next_of.Goals as goal
 
@@ -14,6 +14,10 @@ pub next_instant-requires-clause-same : goal.next_instant-requires-clause-same
 next_instant-requires-clause-same c =
     subst (λ (s : List ℕ). HaveSame c.args.stale.now.places s c.as_slice-2.result.now) (sym (c.as_slice.ensures.value ∙ ap (λ (x : State). x.stable) c.state.view_is))
     (subst (λ (m : List ℕ). HaveSame c.args.stale.now.places c.args.state.now.stable m) (sym (c.as_slice-2.ensures.value ∙ ap (λ (x : State). x.marking) c.state.view_is)) c.requires.known.places)
+
+pub next_instant-requires-clause-asleep : goal.next_instant-requires-clause-asleep
+next_instant-requires-clause-asleep c =
+    subst (AreAsleep c.args.flat.now c.args.stale.now.awake) (sym (c.as_slice-2.ensures.value ∙ ap (λ (x : State). x.marking) c.state.view_is)) c.requires.known.asleep
 
 pub returns : goal.returns
 returns c = λ draw bounds.

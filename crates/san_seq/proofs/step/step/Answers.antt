@@ -124,5 +124,5 @@ returns-in-Completes-clause-known c =
     if_answered c.complete_instant-answer.result n (instant_in n draw bounds u j k).0 _ c.complete_instant-answer.ensures.answered
     (λ t e. instant_known n draw bounds c.args.wakes.now c.is_network.ensures.laid j k inside v c.deref.result.now c.deref-in-Completes.result.now c.args.stale.now c.touch.new.stale
     (c.deref.ensures.value ∙ ap (λ (x : State). x.stable) c.state-in-Completes.view_is) (c.deref-in-Completes.ensures.value ∙ ap (λ (x : State). x.marking) c.state-in-Completes.view_is)
-    c.requires.known.woken c.requires.known.flags c.touch.ensures.own c.touch.ensures.touched
+    c.requires.known.woken c.requires.known.flags c.touch.ensures.own c.touch.ensures.awake c.touch.ensures.touched
     c.args.state.now u t c.requires.running.marking refl c.requires.known c.complete_instant-answer.ensures.left e)

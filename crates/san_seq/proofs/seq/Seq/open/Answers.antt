@@ -13,7 +13,7 @@ invariant_of-result c =
       draws = omega (arith, many, c.acts.ensures);
       run_phase = (
         state_runs c.args.flat.now c.args.limits c.in_ok-marking.marking.items c.in_ok-stable.stable.items c.in_ok-rows.rows c.in_ok-marking.ensures c.in_ok-stable.ensures c.in_ok-rows.ensures,
-        all_are_stale c.args.flat.now c.in_ok-wakes.wakes c.in_ok-stale.stale _ c.in_ok-wakes.ensures c.in_ok-stale.ensures.settled c.in_ok-stale.ensures.timers c.in_ok-stale.ensures.places (c.in_ok-stable.ensures ∙ sym c.in_ok-marking.ensures),
+        all_are_stale c.args.flat.now c.in_ok-wakes.wakes c.in_ok-stale.stale _ c.in_ok-wakes.ensures c.in_ok-stale.ensures.settled c.in_ok-stale.ensures.timers c.in_ok-stale.ensures.places c.in_ok-stale.ensures.awake (c.in_ok-stable.ensures ∙ sym c.in_ok-marking.ensures),
       );
     }
 
