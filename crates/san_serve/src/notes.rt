@@ -76,11 +76,7 @@ pub fn end_with<N: Sink>(status: Status, notes: &mut N) -> Status
 
 /// The status that an answer comes to, whose line is put into the notes. A note that fails changes no
 /// status.
-pub fn conclude<N: Sink>(
-    alloc: Global,
-    answer: Result<Status, Refusal>,
-    notes: &mut N,
-) -> Status
+pub fn conclude<N: Sink>(alloc: Global, answer: Result<Status, Refusal>, notes: &mut N) -> Status
     ensures { Concludes answer result (λ line. Noted (N.held notes.old) (N.held notes.new)
         (N.faults notes.old) (N.faults notes.new) line) }
 {
