@@ -5,6 +5,7 @@ use crate::order::run_by_pieces;
 use san_base::{MemSink, MemSource, NoMemory};
 use san_batch::batch_words;
 use san_cmd::{Status, plain_words, run_words, show_words};
+use san_passage::first_words;
 use std::alloc::Global;
 use std::thread::Threads;
 
@@ -105,6 +106,7 @@ impl<'a> Call<'a> {
             "run" => run_words(alloc, words, &mut source, &mut sink, &mut notes),
             "show" => show_words(alloc, words, &mut source, &mut sink, &mut notes),
             "batch" => batch_words(rt, alloc, words, &mut source, &mut sink, &mut notes),
+            "first" => first_words(rt, alloc, words, &mut source, &mut sink, &mut notes),
             _ => return Ok(None),
         };
         Ok(Some(Ran {

@@ -237,8 +237,8 @@ impl<'a> Trial<'a> {
         Ok(None)
     }
 
-    /// The fault of a call with each value of the option that the row tries, which `run` and `batch`
-    /// take.
+    /// The fault of a call with each value of the option that the row tries, which `run`, `batch`
+    /// and `first` take.
     fn fault_by_options<R: Threads + Sync>(
         &mut self,
         rt: &R,
@@ -252,7 +252,7 @@ impl<'a> Trial<'a> {
         let Some((option, values)) = each.split_once(" ") else {
             return self.fault(rt, alloc, lists, call, text);
         };
-        if call.name != "run" && call.name != "batch" {
+        if call.name != "run" && call.name != "batch" && call.name != "first" {
             return self.fault(rt, alloc, lists, call, text);
         }
         for value in values.split_whitespace() {
