@@ -636,6 +636,69 @@ def place(options: argparse.Namespace) -> None:
         raise Fault(f"there is no place {options.path}")
 
 
+# First passages
+
+
+def passage_of(text: str) -> str:
+    """The tick that a text of sanfirst tells of one run, or how that run ended without it."""
+    try:
+        first, second = (line.split() for line in text.splitlines())
+        reached, never, stopped = (int(first[k]) for k in (3, 5, 7))
+        if reached + never + stopped != 1 or second[0] != "first":
+            raise ValueError
+    except (ValueError, IndexError):
+        raise Fault("this isn't a text of sanfirst for one run") from None
+    return second[1] if reached else "never" if never else "stopped"
+
+
+def shares(ticks: List[int], runs: int) -> List[Tuple[int, Fraction]]:
+    """For each tick of a passage, the share of the runs that had theirs by then."""
+    return [(tick, Fraction(sum(t <= tick for t in ticks), runs)) for tick in sorted(set(ticks))]
+
+
+def place_number(options: argparse.Namespace, text: str) -> str:
+    if options.place.isdigit():
+        return options.place
+    numbers = Model(call([program("sanshow", options.bin)], text)).places()
+    if options.place not in numbers:
+        raise Fault(f"there is no place {options.place}")
+    return str(numbers[options.place])
+
+
+def passages(options: argparse.Namespace) -> None:
+    text = read_text(options.model)
+    words = [program("sanfirst", options.bin), *run_words(options), "--runs", "1", "--workers", "1"]
+    words += ["--place", place_number(options, text), "--least", str(options.least)]
+    found = list(each_seed(options, lambda s: passage_of(call([*words, "--seed", str(s)], text))))
+    ticks = [int(passage) for _, passage in found if passage.isdigit()]
+    stopped = sum(passage == "stopped" for _, passage in found)
+    table = csv.writer(sys.stdout, lineterminator="\n")
+    if options.distribution:
+        table.writerow(["tick", "share"])
+        table.writerows([tick, shown(share)] for tick, share in shares(ticks, len(found) - stopped))
+    else:
+        table.writerow(["seed", "passage"])
+        table.writerows(found)
+    print(passage_line(ticks, len(found) - stopped, stopped, options.level / 100), file=sys.stderr)
+
+
+def passage_line(ticks: List[int], runs: int, stopped: int, level: float) -> str:
+    """The chance of a passage by the horizon, and the mean tick of those that came."""
+    if not runs:
+        return "every run stopped"
+    low, high = wilson(len(ticks), runs, level)
+    words = [f"reached {len(ticks)} of {runs}: chance {shown(len(ticks) / runs)}, {shown(low)} to {shown(high)}"]
+    summary = Summary("", len(ticks), sum(ticks), sum(t * t for t in ticks), None, None)
+    mean, half = summary.mean(), summary.half_width(level)
+    if mean is not None:
+        words.append(f"mean tick of these {shown(mean)}" + (f", half-width {shown(half)}" if half is not None else ""))
+    if len(ticks) < runs:
+        words.append("the others come later than the horizon, so their ticks are unknown")
+    if stopped:
+        words.append(f"{stopped} stopped runs are left out")
+    return "; ".join(words)
+
+
 # Plots
 
 WIDTH, HEIGHT, MARGIN = 720, 440, 60
@@ -771,6 +834,14 @@ def parser() -> argparse.ArgumentParser:
     c.add_argument("model")
     c.add_argument("--jobs", type=int, default=4)
     limits_options(c, 100)
+    c = command("passages", passages, "for each seed the tick at which a place first has at least a value")
+    c.add_argument("model")
+    c.add_argument("--place", required=True, help="the place's path or number")
+    c.add_argument("--least", type=int, required=True, help="the value")
+    c.add_argument("--distribution", action="store_true", help="the share of runs by each tick, in place of a line a seed")
+    c.add_argument("--jobs", type=int, default=4)
+    limits_options(c, 100)
+    level(c)
     c = command("curve", curve, "a reward's mean at many ticks")
     c.add_argument("model")
     c.add_argument("--reward", required=True)

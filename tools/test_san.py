@@ -158,6 +158,25 @@ class Texts(unittest.TestCase):
         self.assertEqual((report.ending, report.rewards), (["end", "10", "2"], {"r": "27"}))
 
 
+class Passages(unittest.TestCase):
+    def test_one_run(self):
+        self.assertEqual(san.passage_of("runs 1 reached 1 never 0 stopped 0\nfirst 12 12 12\n"), "12")
+        self.assertEqual(san.passage_of("runs 1 reached 0 never 1 stopped 0\nfirst 0 none none\n"), "never")
+        self.assertEqual(san.passage_of("runs 1 reached 0 never 0 stopped 1\nfirst 0 none none\n"), "stopped")
+        with self.assertRaises(san.Fault):
+            san.passage_of("runs 2 reached 2 never 0 stopped 0\nfirst 12 6 6\n")
+
+    def test_those_that_never_came_hold_the_shares_down(self):
+        self.assertEqual(san.shares([5, 2, 5], 4), [(2, Fraction(1, 4)), (5, Fraction(3, 4))])
+
+    def test_chance_and_mean_are_told(self):
+        line = san.passage_line([4, 6], 4, 1, 0.95)
+        self.assertTrue(line.startswith("reached 2 of 4: chance 0.5, 0.150"))
+        # the mean is 5, the variance 2, and Student's t 12.7062
+        self.assertIn("mean tick of these 5, half-width 12.7062", line)
+        self.assertIn("1 stopped runs are left out", line)
+
+
 class Plots(Folder):
     TABLE = "N,reward,mean,half_width\n1,r,2.5,0.5\n2,r,3.5,0.25\n1,s,1,\n2,s,,\n"
 
@@ -214,6 +233,12 @@ class Programs(Folder):
         stored = self.file("stored", lines)
         self.assertEqual(said("fingerprint", self.lamp(), *words, "--check", stored)[0], 0)
         self.assertEqual(said("fingerprint", self.lamp("21"), *words, "--check", stored)[0], 2)
+
+    def test_passages_by_path_and_by_number(self):
+        words = ["--least", "1", "--horizon", "50", "--runs", "5"]
+        path = said("passages", self.lamp(), "--place", "lamp.dark", *words)
+        self.assertEqual(path, said("passages", self.lamp(), "--place", "1", *words))
+        self.assertEqual(len(path[1].splitlines()), 6)
 
     def test_place_of_a_path(self):
         model = self.file("j.san", JOINED)
