@@ -30,8 +30,8 @@ fn put_events(alloc: Global, page: &mut Vec<u8>, flat: &Flat, ran: &Ran) -> Resu
         if event.act.0 >= flat.acts() {
             return Ok(false);
         }
-        number = number.saturating_add(1);
         page.extend_from_slice(event_line(alloc, flat, number, *event)?.as_slice())?;
+        number = number.saturating_add(1);
     }
     Ok(true)
 }
