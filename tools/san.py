@@ -22,8 +22,6 @@ from typing import Dict, Iterable, List, Optional, Tuple
 # The most runs that one call of sanbatch makes, and the rewards that one text may have.
 MOST_RUNS = 10_000
 MOST_REWARDS = 64
-# A number beyond this isn't squared by sanbatch, and a batch with one says `wide`.
-WIDEST = 10**17
 
 
 class Fault(Exception):
