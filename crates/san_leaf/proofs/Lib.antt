@@ -16,3 +16,4 @@ pub mod GatherLemmas
 pub mod RenewalLemmas
 pub mod TimerLemmas
 pub mod SameLemmas
+pub mod LogLemmas

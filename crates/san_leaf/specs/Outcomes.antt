@@ -10,7 +10,7 @@ use Rattle.san_law.specs.Block as block
 use Rattle.san_law.specs.Piece as law
 use Rattle.san_leaf.specs.Fits.{Fits}
 use Rattle.san_leaf.specs.Claimed.{claim_of}
-use Rattle.san_leaf.specs.Pieces.{IsSound, PieceValue}
+use Rattle.san_leaf.specs.Pieces.{IsLog, IsSound, PieceValue}
 use Rattle.san_leaf.specs.States.{pair_in}
 use Rattle.san_leaf.specs.Events.{completions_from}
 use Rattle.san_leaf.specs.declared.outcome.Fault.{Fault}
@@ -50,4 +50,5 @@ piece_by part seed kind base time log outcome = record { part = part; seed = see
 pub record IsPiece (p : PieceValue) (o : Outcome) : Type 0 where
   pub sound : IsSound p
   pub fits : Fits (claim_of p)
+  pub log : IsLog p.part p.log
   pub numbered : IsNumbered p.part.first.0 p.time o

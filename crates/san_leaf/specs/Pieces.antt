@@ -1,6 +1,7 @@
 -- A piece as contracts see it, and when it is sound.
 use Rattle.std.specs.Prelude.{ℕ, suc, ◌≡◌, List, [], ◌∷◌, length, map, Bool, true, false, Some, None, slice_index}
 use Rattle.san_draw.specs.Key.{draw_of}
+use Rattle.san_expr.specs.Concerns.{IsMarking}
 use Rattle.san_law.specs.Net.{Private, Shared, Slot}
 use Rattle.san_base.specs.declared.piece.Kind.{Kind}
 use Rattle.san_law.specs.Piece.{LeafState, Outcome, own, piece_of, leaf_view}
@@ -66,3 +67,10 @@ pub record IsSound (p : PieceValue) : Type 0 where
 -- a leaf's state before its first piece
 abbrev pub opened_state : Part → LeafState
 opened_state p = record { values = own (slots_in p) p.atomic.initial; row = blank_row (length p.atomic.acts); seen = [] }
+
+-- what was read of some of a part's cells: shared places in the order of the cells, each with a number of tokens
+pub record IsLog (p : Part) (log : List (ℕ × ℕ)) : Type 0 where
+  pub looks : ℕ → Bool
+  pub values : List ℕ
+  pub small : IsMarking values
+  pub is : log ≡ reads_from looks 0 (slots_in p) values

@@ -3,7 +3,7 @@
 ghost use Rattle.std.specs.Prelude.{◌≡◌, IfOk, map};
 ghost use Rattle.san_leaf.specs.Claimed.{IsReadFrom};
 ghost use Rattle.san_leaf.specs.States.{pair_in};
-ghost use Rattle.san_leaf.specs.inner.Gathers.{joined, place_in, shared_of};
+ghost use Rattle.san_leaf.specs.inner.Gathers.{HasTokens, joined, place_in, shared_of};
 ghost use Rattle.san_net.specs.Leaf.{slot_in};
 
 use crate::leaf_view::View;
@@ -19,6 +19,7 @@ pub(crate) fn read_all<V: View>(
 ) -> Result<Vec<(PlaceId, u32)>, NoMemory>
     ensures places { IfOk result (λ v. map place_in v.items ≡ shared_of (map slot_in slots.now)) }
     ensures read { IfOk result (λ v. IsReadFrom (V.marking view.old) (map pair_in v.items)) }
+    ensures small { IfOk result (λ v. HasTokens (map pair_in v.items)) }
     ensures marking { V.marking view.new ≡ V.marking view.old }
     ensures kept { V.kept view.new ≡ V.kept view.old }
 {

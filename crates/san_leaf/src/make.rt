@@ -6,7 +6,7 @@ ghost use Rattle.san_leaf.specs.Claims.{claimed};
 ghost use Rattle.san_leaf.specs.Claimed.{IsMadeFor, IsReadFrom};
 ghost use Rattle.san_leaf.specs.Fits.{Fits};
 ghost use Rattle.san_leaf.specs.Outcomes.{IsNumbered, outcome_in, piece_by};
-ghost use Rattle.san_leaf.specs.Pieces.{IsSound};
+ghost use Rattle.san_leaf.specs.Pieces.{IsLog, IsSound};
 ghost use Rattle.san_leaf.specs.States.{kind_in, pair_in};
 ghost use Rattle.san_leaf.specs.inner.Cells.{starts};
 ghost use Rattle.san_leaf.specs.inner.Ends.{kind_by, piece_of_cells};
@@ -37,6 +37,7 @@ fn assemble(
     requires sound { IsSound (piece_by claim.now.part claim.now.seed claim.now.kind claim.now.base
         claim.now.time.0 (map pair_in log.items) (outcome_in claim.now.part.first.0 outcome)) }
     requires fits { Fits (claimed claim.now) }
+    requires log { IsLog claim.now.part (map pair_in log.items) }
     requires numbered { IsNumbered claim.now.part.first.0 claim.now.time.0 outcome }
     ensures { IfOk result (λ p. p ≡ piece_by claim.now.part claim.now.seed claim.now.kind
         claim.now.base claim.now.time.0 (map pair_in log.items) (outcome_in claim.now.part.first.0

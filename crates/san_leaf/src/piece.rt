@@ -4,7 +4,7 @@ ghost use Rattle.std.specs.Prelude.{◌≡◌, map};
 ghost use Rattle.san_leaf.specs.Claimed.{claim_of};
 ghost use Rattle.san_leaf.specs.Fits.{Fits};
 ghost use Rattle.san_leaf.specs.Outcomes.{IsNumbered, outcome_in, piece_by};
-ghost use Rattle.san_leaf.specs.Pieces.{IsSound};
+ghost use Rattle.san_leaf.specs.Pieces.{IsLog, IsSound};
 ghost use Rattle.san_leaf.specs.States.{pair_in};
 
 use crate::outcome::Outcome;
@@ -67,6 +67,13 @@ impl Piece {
         ensures { Fits (claim_of self.now) }
     {
         let _ = &self.kind;
+    }
+
+    /// Its log is what was read of some of its part's cells.
+    pub fn is_noted(&self)
+        ensures { IsLog self.now.part self.now.log }
+    {
+        let _ = &self.seed;
     }
 
     /// The seed of its draws.

@@ -1,5 +1,6 @@
 -- A leaf's values, from its own ones and what was read of the shared places.
-use Rattle.std.specs.Prelude.{ℕ, List, [], ◌∷◌}
+use Rattle.std.specs.Prelude.{ℕ, ◌≤◌, List, [], ◌∷◌, slice_index_or}
+use Rattle.san_base.specs.declared.limits.TheConstants.{MAX_TOKENS}
 use Rattle.san_base.specs.declared.numbers.PlaceId.{PlaceId}
 use Rattle.san_law.specs.Net.{Private, Shared, Slot}
 
@@ -19,3 +20,7 @@ joined (Private q ∷ ss) [] log = 0 ∷ joined ss [] log
 joined (Private q ∷ ss) (v ∷ own) log = v ∷ joined ss own log
 joined (Shared q ∷ ss) own [] = 0 ∷ joined ss own []
 joined (Shared q ∷ ss) own (r ∷ log) = r.1 ∷ joined ss own log
+
+-- each value that was read is a number of tokens
+abbrev pub HasTokens : List (ℕ × ℕ) → Type 0
+HasTokens log = (i : ℕ) → (slice_index_or log i (0, 0)).1 ≤ MAX_TOKENS

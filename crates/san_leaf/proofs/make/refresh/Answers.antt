@@ -8,6 +8,7 @@ use Rattle.san_leaf.specs.Outcomes.{outcome_in}
 use Rattle.san_leaf.specs.States.{pair_in}
 use Rattle.san_leaf.specs.inner.Gathers.{joined, shared_of}
 use Rattle.san_leaf.proofs.GatherLemmas.{firsts_are, joined_long}
+use Rattle.san_leaf.proofs.LogLemmas.{read_is_log}
 use Rattle.san_leaf.proofs.RenewalLemmas.{refresh_sound}
 use Rattle.san_leaf.proofs.make.refresh.Goals as goal
 
@@ -27,3 +28,10 @@ assemble-requires-clause-sound g c =
     (c.in_ok-values.ensures ∙ ap (λ (ss : List Slot). joined (map slot_in ss) c.deref.result.now (map pair_in c.deref-2.result.now)) slots ∙ ap (λ (vs : List ℕ). joined (map slot_in claim.part.slots) vs (map pair_in c.deref-2.result.now)) own
     ∙ ap (λ xs. joined (map slot_in claim.part.slots) claim.base.values (map pair_in xs)) c.deref-2.ensures.value)
     c.requires.seed c.in_ok-outcome.ensures.same
+
+pub assemble-requires-clause-log : goal.assemble-requires-clause-log
+assemble-requires-clause-log g c =
+    let claim = c.args.claim.now in
+    let slots : c.as_slice-slots.result.now ≡ claim.part.slots = c.as_slice-slots.ensures ∙ ap (λ (p : Part). p.slots) c.get.ensures in
+    read_is_log claim.part claim.base.values (map pair_in c.in_ok-log.log.items) c.requires.fits.base.small c.in_ok-log.ensures.small
+    (firsts_are c.in_ok-log.log.items ∙ c.in_ok-log.ensures.places ∙ ap (λ (ss : List Slot). shared_of (map slot_in ss)) slots)
