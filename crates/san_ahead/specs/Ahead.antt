@@ -3,8 +3,9 @@ use Rattle.std.specs.Prelude.{ℕ, suc, ◌≡◌, List, [], ◌∷◌, ◌++◌
 use Rattle.san_book.specs.Chains.{Chain, chain_of, with_piece, without_piece, without_pieces}
 use Rattle.san_book.specs.Cores.{bare_line}
 use Rattle.san_book.specs.Lines.{Line, commit, each}
-use Rattle.san_chain.specs.Chains.{ChainValue}
+use Rattle.san_chain.specs.Chains.{ChainValue, end_from}
 use Rattle.san_decide.specs.Booked.{of_piece}
+use Rattle.san_law.specs.Piece.{LeafState}
 use Rattle.san_leaf.specs.Pieces.{PieceValue}
 use Rattle.san_line.specs.Lines.{LineValue}
 use Rattle.san_ahead.specs.Aheads.{line_in}
@@ -61,3 +62,7 @@ pub record TakesOut (old : AheadValue) (j : ℕ) (p : PieceValue) (new : AheadVa
   pub rest : Chain PieceValue
   pub is : chain_of old.chains j ≡ (pos, p) ∷ rest
   pub left : new ≡ without_head old j (pos, p) rest
+
+-- a leaf's chain has a piece, and the last one leaves this state
+abbrev pub EndsWith : AheadValue → ℕ → LeafState → Type 0
+EndsWith a j s = (d : LeafState) → end_from of_piece.end d (chain_of a.chains j) ≡ s

@@ -1,21 +1,23 @@
 //! What is made ahead of the committed time.
 
-ghost use Rattle.std.specs.Prelude.{◌≡◌, ◌≤◌, ◌<◌, ◌+◌, ◌^◌, ◌∷◌, [], ℕ, IfOk, length, map, replicate, slice_index};
+ghost use Rattle.std.specs.Prelude.{◌≡◌, ◌≤◌, ◌<◌, ◌+◌, ◌^◌, [], ℕ, IfErr, IfOk, None, OnOk, length, map, replicate, slice_index};
 ghost use Rattle.std.specs.Option.{MatchOption};
-ghost use Rattle.san_ahead.specs.Ahead.{Heads, TakesOut, cut_from, nothing, raised, with_committed};
+ghost use Rattle.san_ahead.specs.Ahead.{EndsWith, Heads, TakesOut, cut_from, nothing, pushed, raised, with_committed};
 ghost use Rattle.san_ahead.specs.Aheads.{line_in};
 ghost use Rattle.san_book.specs.Chains.{AllFit, chain_of, current};
 ghost use Rattle.san_book.specs.Cores.{bare_line};
-ghost use Rattle.san_book.specs.Lines.{AreWrites, seen_at};
+ghost use Rattle.san_book.specs.Lines.{AreWrites, line_of, seen_at};
 ghost use Rattle.san_book.specs.Nets.{or_zero};
+ghost use Rattle.san_chain.specs.Chains.{GoesOn, end_of};
 ghost use Rattle.san_decide.specs.Booked.{of_piece};
 ghost use Rattle.san_leaf.specs.States.{pair_in};
+ghost use Rattle.san_line.specs.Lines.{find};
 
-use crate::chains::{current_pieces, cut_chain};
+use crate::chains::{current_pieces, cut_chain, push_piece};
 use crate::lines::{commit_writes, withdraw_writes};
 use san_base::{LeafId, NoMemory, PlaceId, Stamp};
 use san_chain::Chain;
-use san_leaf::Piece;
+use san_leaf::{LeafState, Piece};
 use san_line::Line;
 use std::alloc::Global;
 use std::marker::Model;
@@ -173,5 +175,37 @@ impl Ahead {
         ensures { self.new ≡ raised self.old leaf.0 }
     {
         self.counters[leaf.0 as usize] += 1;
+    }
+
+    /// The state that the pieces of a leaf end with; none where there is no piece.
+    pub fn end(&self, leaf: LeafId) -> Option<&LeafState>
+        requires { leaf.0 < length self.now.chains }
+        ensures { MatchOption result (chain_of self.now.chains leaf.0 ≡ []) (λ s. EndsWith self.now leaf.0 s.now) }
+    {
+        self.chains[leaf.0 as usize].end()
+    }
+
+    /// Pushes a piece of a leaf, from whose end it goes on, with the leaf's next number, and puts its
+    /// versions into the lines. For want of memory the piece comes back, and nothing changes.
+    pub fn push(&mut self, leaf: LeafId, piece: Piece) -> Result<(), Piece>
+        requires leaf { leaf.0 < length self.old.chains }
+        requires number { leaf.0 < length self.old.counters }
+        requires few { slice_index self.old.counters leaf.0 + 1 < 2 ^ 64 }
+        requires fit { AreWrites (length self.old.lines) piece.outcome.writes }
+        requires new { (q : ℕ) → find leaf.0 (slice_index self.old.counters leaf.0) (line_of
+            self.old.lines q).versions ≡ None }
+        requires goes_on { GoesOn piece.base (end_of (λ p. p.outcome.state) (chain_of self.old.chains leaf.0)) }
+        ensures pushed { OnOk result (self.new ≡ pushed self.old leaf.0 piece) }
+        ensures back { IfErr result (λ p. (p ≡ piece) × (self.new ≡ self.old)) }
+    {
+        let at = leaf.0 as usize;
+        let pos = self.counters[at];
+        match push_piece(&mut self.lines, leaf, pos, &mut self.chains[at], piece) {
+            Ok(()) => {
+                self.counters[at] = pos + 1;
+                Ok(())
+            }
+            Err(piece) => Err(piece),
+        }
     }
 }

@@ -68,7 +68,7 @@ read_is a b h =
     let t = both_true (nat_eq a.0 b.0) (nat_eq a.1 b.1) h in
     ap (λ (n : ℕ). (n, a.1)) (same_number a.0 b.0 t.0) ∙ ap (λ (n : ℕ). (b.0, n)) (same_number a.1 b.1 t.1)
 
-read_itself : (a : ℕ × ℕ) → same_read a a ≡ true
+pub read_itself : (a : ℕ × ℕ) → same_read a a ≡ true
 read_itself a = and_true (nat_eq a.0 a.0) (nat_eq a.1 a.1) (number_itself a.0) (number_itself a.1)
 
 -- what a leaf reads of shared values is there
@@ -111,7 +111,7 @@ reads_found (Shared r ∷ ss) (v ∷ vs) looks k m d f = by_look (looks k) f (λ
     )
 
 -- so do those of the log itself
-reads_tell : (n : ℕ) (others : ℕ → Type 0) (ss : List Slot) (vs : List ℕ) (looks : ℕ → Bool) (k : ℕ) → AllApart n others ss → AreDistinct (map place_of ss)
+pub reads_tell : (n : ℕ) (others : ℕ → Type 0) (ss : List Slot) (vs : List ℕ) (looks : ℕ → Bool) (k : ℕ) → AllApart n others ss → AreDistinct (map place_of ss)
     → AgreesWith (reads_from looks k ss vs) (values_from 0 n (map entry_of (reads_from looks k ss vs)))
 reads_tell n others ss vs looks k a d =
     let log = map entry_of (reads_from looks k ss vs) in
@@ -157,10 +157,10 @@ module _ (n : Network) (network : IsNetwork n) (seed : ℕ) (limits : Limits) wh
   abbrev Others : ℕ → ℕ → Type 0
   Others j p = index_of p (slots_of of_run (suc j)) ≡ None
 
-  slots_apart : (j : ℕ) → AllApart n.shared (Others j) (slots_in (part_at n j))
+  pub slots_apart : (j : ℕ) → AllApart n.shared (Others j) (slots_in (part_at n j))
   slots_apart j = subst (λ (ss : List Slot). AllApart n.shared (Others j) ss) (slots_at n.parts j) (is_laid.apart j (suc j) (λ e. omega (arith, e)))
 
-  slots_distinct : (j : ℕ) → AreDistinct (map place_of (slots_in (part_at n j)))
+  pub slots_distinct : (j : ℕ) → AreDistinct (map place_of (slots_in (part_at n j)))
   slots_distinct j = subst (λ (ss : List Slot). AreDistinct (map place_of ss)) (slots_at n.parts j) (is_laid.distinct j)
 
   -- the law's piece of a leaf
