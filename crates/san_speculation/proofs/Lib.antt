@@ -11,3 +11,6 @@ pub mod Committings
 pub mod Advancing
 pub mod Redos
 pub mod Counters
+pub mod Publications
+pub mod Countings
+pub mod Published

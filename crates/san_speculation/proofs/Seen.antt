@@ -1,7 +1,7 @@
 -- A core as a call sees it, and by its parts.
 use Rattle.std.proofs.Common.{ℕ, List, ◌<◌, ◌≡◌, ◌∙◌, ap, sym, subst, refl, Option, Some, None, false, true}
 use Rattle.san_book.specs.Cores as book
-use Rattle.san_book.specs.Journals.{stepped}
+use Rattle.san_book.specs.Journals.{replayed, stepped}
 use Rattle.san_law.specs.Core as law
 use Rattle.san_leaf.specs.Pieces.{PieceValue}
 use Rattle.san_core.specs.Machines.{FollowsRun, MachineValue, core_in, net_in}
@@ -59,3 +59,7 @@ redo_failed old new w (Ok x) is same = let e : false ≡ true = is in absurd (cc
 
 pub same_parts : (m n : MachineValue) (a : AheadValue) (os : List (Option LeafId)) (js ks : List Step) (r : ℕ) (v : CoreValue) → core_by m a os js r ≡ v → n ≡ m → ks ≡ js → core_by n a os ks r ≡ v
 same_parts m n a os js ks r v is same steps = ap (λ (x : MachineValue). core_by x a os ks r) same ∙ (ap (λ (xs : List Step). core_by m a os xs r) steps ∙ is)
+
+-- what several steps come to
+pub replayed_seen : (c v : CoreValue) → c ≡ v → (ss : List book.Step) (o : Option (book.Core law.Core PieceValue)) → replayed (book_in c.machine) c.machine.limits ss c.book ≡ o → replayed (book_in v.machine) v.machine.limits ss v.book ≡ o
+replayed_seen c v is ss o e = subst (λ (x : CoreValue). replayed (book_in x.machine) x.machine.limits ss x.book ≡ o) is e

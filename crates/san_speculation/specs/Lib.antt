@@ -1,3 +1,5 @@
 pub mod Speculating
 pub mod CoreCalls
+pub mod Counting
+pub mod Publishing
 pub mod inner

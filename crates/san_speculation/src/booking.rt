@@ -7,7 +7,9 @@ use crate::step::Step;
 /// Books a step, for which there is room.
 pub(crate) fn book(journal: &mut Vec<Step>, step: Step)
     requires { vec_len journal.old + 1 ≤ vec_capacity journal.old }
-    ensures { journal.new.items ≡ journal.old.items ++ step ∷ [] }
+    ensures items { journal.new.items ≡ journal.old.items ++ step ∷ [] }
+    ensures len { vec_len journal.new ≡ vec_len journal.old + 1 }
+    ensures room { vec_capacity journal.old ≤ vec_capacity journal.new }
 {
     let Ok(()) = journal.push(step) else {
         unreachable!()

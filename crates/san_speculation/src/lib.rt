@@ -4,9 +4,13 @@
 mod booking;
 mod commit;
 mod committing;
+mod counting;
 mod cut;
 mod need;
 mod opening;
+mod publish;
+mod publishing;
+mod pushing;
 mod reading;
 mod redo;
 mod resuming;
@@ -14,5 +18,7 @@ mod retaking;
 mod speculation;
 mod step;
 
+pub use counting::Counts;
+pub use publishing::Publishing;
 pub use speculation::Core;
 pub use step::Step;

@@ -43,7 +43,7 @@ invariant_of-self-2 c =
     let old = core_by c.self.inside.machine c.self.inside.ahead c.self.inside.claims.items c.self.inside.journal.items c.self.inside.rollbacks in
     let new = core_by c.commit_pieces-pieces.new.machine c.commit_pieces-pieces.new.ahead c.self.inside.claims.items c.book.new.journal.items c.self.inside.rollbacks in
     let happens = step_seen old c.args.self.now c.self.view_is (book.Commit c.args.worker c.commit_pieces-pieces.result) _
-    (commit_is c.self.inside.machine c.self.inside.ahead c.self.inside.claims.items c.self.inside.journal.items c.self.inside.rollbacks c.commit_pieces-pieces.new.machine c.commit_pieces-pieces.new.ahead c.args.worker c.commit_pieces-pieces.result c.book.new.journal.items c.commit_pieces-pieces.ensures.least c.commit_pieces-pieces.ensures.most (all_here c.self.inside.machine c.reserve-2.new.self MAX_COMMIT c.in_ok-reserve-2.ensures.ok c.self.inside.ahead c.commit_pieces-pieces.result c.commit_pieces-pieces.new.machine c.commit_pieces-pieces.new.ahead c.commit_pieces-pieces.ensures.taken) (c.book.ensures ∙ ap (λ (js : List Step). js ++ step.Commit c.args.worker c.commit_pieces-pieces.result ∷ []) c.in_ok-reserve.ensures.items)) in
+    (commit_is c.self.inside.machine c.self.inside.ahead c.self.inside.claims.items c.self.inside.journal.items c.self.inside.rollbacks c.commit_pieces-pieces.new.machine c.commit_pieces-pieces.new.ahead c.args.worker c.commit_pieces-pieces.result c.book.new.journal.items c.commit_pieces-pieces.ensures.least c.commit_pieces-pieces.ensures.most (all_here c.self.inside.machine c.reserve-2.new.self MAX_COMMIT c.in_ok-reserve-2.ensures.ok c.self.inside.ahead c.commit_pieces-pieces.result c.commit_pieces-pieces.new.machine c.commit_pieces-pieces.new.ahead c.commit_pieces-pieces.ensures.taken) (c.book.ensures.items ∙ ap (λ (js : List Step). js ++ step.Commit c.args.worker c.commit_pieces-pieces.result ∷ []) c.in_ok-reserve.ensures.items)) in
     let same = run_moved old c.args.self.now c.self.view_is c.commit_pieces-pieces.new.machine (run_here c.self.inside.machine c.reserve-2.new.self MAX_COMMIT c.in_ok-reserve-2.ensures.ok c.self.inside.ahead c.commit_pieces-pieces.result c.commit_pieces-pieces.new.machine c.commit_pieces-pieces.new.ahead c.commit_pieces-pieces.ensures.taken) in
     step_keeps c.args.self.now new c.keeps_the_law.ensures.machine run c.keeps_the_law.ensures.replayed (book.Commit c.args.worker c.commit_pieces-pieces.result) tt happens same
 
@@ -54,7 +54,7 @@ returns c =
     let old = core_by c.self.inside.machine c.self.inside.ahead c.self.inside.claims.items c.self.inside.journal.items c.self.inside.rollbacks in
     let new = core_by c.commit_pieces-pieces.new.machine c.commit_pieces-pieces.new.ahead c.self.inside.claims.items c.book.new.journal.items c.self.inside.rollbacks in
     let happens = step_seen old c.args.self.now c.self.view_is (book.Commit c.args.worker c.commit_pieces-pieces.result) _
-    (commit_is c.self.inside.machine c.self.inside.ahead c.self.inside.claims.items c.self.inside.journal.items c.self.inside.rollbacks c.commit_pieces-pieces.new.machine c.commit_pieces-pieces.new.ahead c.args.worker c.commit_pieces-pieces.result c.book.new.journal.items c.commit_pieces-pieces.ensures.least c.commit_pieces-pieces.ensures.most (all_here c.self.inside.machine c.reserve-2.new.self MAX_COMMIT c.in_ok-reserve-2.ensures.ok c.self.inside.ahead c.commit_pieces-pieces.result c.commit_pieces-pieces.new.machine c.commit_pieces-pieces.new.ahead c.commit_pieces-pieces.ensures.taken) (c.book.ensures ∙ ap (λ (js : List Step). js ++ step.Commit c.args.worker c.commit_pieces-pieces.result ∷ []) c.in_ok-reserve.ensures.items)) in
+    (commit_is c.self.inside.machine c.self.inside.ahead c.self.inside.claims.items c.self.inside.journal.items c.self.inside.rollbacks c.commit_pieces-pieces.new.machine c.commit_pieces-pieces.new.ahead c.args.worker c.commit_pieces-pieces.result c.book.new.journal.items c.commit_pieces-pieces.ensures.least c.commit_pieces-pieces.ensures.most (all_here c.self.inside.machine c.reserve-2.new.self MAX_COMMIT c.in_ok-reserve-2.ensures.ok c.self.inside.ahead c.commit_pieces-pieces.result c.commit_pieces-pieces.new.machine c.commit_pieces-pieces.new.ahead c.commit_pieces-pieces.ensures.taken) (c.book.ensures.items ∙ ap (λ (js : List Step). js ++ step.Commit c.args.worker c.commit_pieces-pieces.result ∷ []) c.in_ok-reserve.ensures.items)) in
     let same = run_moved old c.args.self.now c.self.view_is c.commit_pieces-pieces.new.machine (run_here c.self.inside.machine c.reserve-2.new.self MAX_COMMIT c.in_ok-reserve-2.ensures.ok c.self.inside.ahead c.commit_pieces-pieces.result c.commit_pieces-pieces.new.machine c.commit_pieces-pieces.new.ahead c.commit_pieces-pieces.ensures.taken) in
     commit_by_some c.args.self.now new c.args.worker c.commit_pieces-pieces.result c.commit_pieces-pieces.ensures.least
     (advances c.args.self.now new c.keeps_the_law.ensures.machine run c.follows.ensures (held_seen c.self.inside.machine c.self.inside.ahead c.self.inside.claims.items c.self.inside.journal.items c.self.inside.rollbacks c.args.self.now c.self.view_is) refl (book.Commit c.args.worker c.commit_pieces-pieces.result) happens same

@@ -66,7 +66,7 @@ invariant_of-self-2 c =
     (goes_here c.self.inside.machine follows c.self.inside.ahead c.in-Some.taking c.in-Some.ensures (sym c.is_full.ensures ∙ c.if-is_full.false) old.book)
     (need_core c.self.inside.machine follows c.self.inside.ahead c.in-Some.taking c.in-Some.ensures)
     (redone_here c.self.inside.machine c.reserve-2.new.self 1 (reserved_then c.self.inside.machine c.make.new.self c.reserve-2.new.self 1 c.make.ensures.same c.in_ok-reserve-2.ensures.ok) c.self.inside.ahead c.in-Some.taking c.retake-thrown.new.machine c.retake-thrown.new.ahead c.retake-thrown.result c.retake-thrown.ensures.redone)
-    (c.book.ensures ∙ ap (λ (js : List Step). js ++ step.Redo c.args.worker ∷ []) c.in_ok-reserve.ensures.items)) in
+    (c.book.ensures.items ∙ ap (λ (js : List Step). js ++ step.Redo c.args.worker ∷ []) c.in_ok-reserve.ensures.items)) in
     let same = run_moved old c.args.self.now c.self.view_is c.retake-thrown.new.machine (run_taken c.self.inside.machine c.reserve-2.new.self 1 (reserved_then c.self.inside.machine c.make.new.self c.reserve-2.new.self 1 c.make.ensures.same c.in_ok-reserve-2.ensures.ok) c.retake-thrown.new.machine c.in_ok-piece.piece c.retake-thrown.ensures.machine) in
     step_keeps c.args.self.now new c.keeps_the_law.ensures.machine run c.keeps_the_law.ensures.replayed (book.Redo c.args.worker) tt happens same
 
@@ -82,7 +82,7 @@ returns c =
     (goes_here c.self.inside.machine follows c.self.inside.ahead c.in-Some.taking c.in-Some.ensures (sym c.is_full.ensures ∙ c.if-is_full.false) old.book)
     (need_core c.self.inside.machine follows c.self.inside.ahead c.in-Some.taking c.in-Some.ensures)
     (redone_here c.self.inside.machine c.reserve-2.new.self 1 (reserved_then c.self.inside.machine c.make.new.self c.reserve-2.new.self 1 c.make.ensures.same c.in_ok-reserve-2.ensures.ok) c.self.inside.ahead c.in-Some.taking c.retake-thrown.new.machine c.retake-thrown.new.ahead c.retake-thrown.result c.retake-thrown.ensures.redone)
-    (c.book.ensures ∙ ap (λ (js : List Step). js ++ step.Redo c.args.worker ∷ []) c.in_ok-reserve.ensures.items)) in
+    (c.book.ensures.items ∙ ap (λ (js : List Step). js ++ step.Redo c.args.worker ∷ []) c.in_ok-reserve.ensures.items)) in
     let same = run_moved old c.args.self.now c.self.view_is c.retake-thrown.new.machine (run_taken c.self.inside.machine c.reserve-2.new.self 1 (reserved_then c.self.inside.machine c.make.new.self c.reserve-2.new.self 1 c.make.ensures.same c.in_ok-reserve-2.ensures.ok) c.retake-thrown.new.machine c.in_ok-piece.piece c.retake-thrown.ensures.machine) in
     advances c.args.self.now new c.keeps_the_law.ensures.machine run c.follows.ensures (held_seen c.self.inside.machine c.self.inside.ahead c.self.inside.claims.items c.self.inside.journal.items c.self.inside.rollbacks c.args.self.now c.self.view_is) refl (book.Redo c.args.worker) happens same
     (less_seen old c.args.self.now c.self.view_is c.retake-thrown.new.machine (less_taken c.self.inside.machine c.reserve-2.new.self 1 (reserved_then c.self.inside.machine c.make.new.self c.reserve-2.new.self 1 c.make.ensures.same c.in_ok-reserve-2.ensures.ok) c.retake-thrown.new.machine c.retake-thrown.ensures.less))
