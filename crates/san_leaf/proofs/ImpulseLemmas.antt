@@ -1,7 +1,6 @@
 -- Impulses of a completion, recorded one after another.
 use Rattle.std.proofs.Common.{ℕ, ℤ, ◌≡◌, ◌∙◌, ◌++◌, ◌∷◌, [], ap, sym, refl, subst, Bool, true, false, nat_eq, List, Result, Ok}
 use Rattle.san_base.specs.declared.ending.Trap.{Trap}
-use Rattle.san_expr.specs.Meaning.{Meaning}
 use Rattle.san_expr.specs.View.{ViewState}
 use Rattle.san_base.specs.Rated.{rated_by}
 use Rattle.san_expr.specs.Meaning.{settled}

@@ -1,4 +1,4 @@
-use Rattle.std.proofs.Common.{ap, map, Option, List, ℕ, ◌≡◌, ◌∙◌}
+use Rattle.std.proofs.Common.{ap, map, List, ◌≡◌, ◌∙◌}
 use Rattle.san_net.specs.Leaf.{slot_in}
 use Rattle.san_net.specs.declared.part.Part.{Part}
 use Rattle.san_net.specs.declared.part.Slot.{Slot}
