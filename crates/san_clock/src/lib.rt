@@ -5,12 +5,14 @@
 mod ask;
 mod clock;
 mod completion;
+mod drawn;
 mod due;
 mod renewal;
 mod row;
 mod view;
 
 pub use completion::complete_act;
+pub use drawn::{delay_tables, drawn_streams};
 pub use due::least_of;
 pub use renewal::{Renewal, renew};
 pub use row::{Row, Timer};

@@ -11,11 +11,11 @@ use crate::admission::Taking;
 use crate::committed::Committed;
 use crate::committed_view::CommittedView;
 use san_base::{Kind, LeafId, NoMemory, Stamp};
+use san_clock::{delay_tables, drawn_streams};
 use san_delay::DelayTables;
 use san_draw::Streams;
-use san_expr::Dist;
 use san_leaf::{Claim, Piece, make_piece};
-use san_net::{ActKind, Flat};
+use san_net::Flat;
 use std::alloc::Global;
 use std::marker::Model;
 
@@ -34,29 +34,16 @@ impl Model for Maker {
     ghost view = { λ m. m.draws };
 }
 
-/// The tables of all delays.
-fn tables(alloc: Global, flat: &Flat) -> Result<DelayTables, NoMemory> {
-    let mut delays: Vec<&Dist> = Vec::new(alloc);
-    'leaves: for leaf in 0..flat.leaves() {
-        let atomic = flat.part(LeafId(leaf)).get().atomic.get();
-        'acts: for act in atomic.acts.as_slice() {
-            if let ActKind::Timed { delay, .. } = &act.1.kind {
-                delays.push(delay)?;
-            }
-        }
-    }
-    DelayTables::open(alloc, &delays)
-}
-
 impl Maker {
     /// For the runs of a network with a seed.
     pub(crate) fn open(alloc: Global, flat: &Flat, seed: u64) -> Result<Maker, NoMemory>
         ensures { IfOk result (λ m. m ≡ record { seed = seed; streams = 2 * acts_of flat.now.parts }) }
     {
         flat.is_network();
+        let drawn = drawn_streams(alloc, flat)?;
         Ok(Maker {
-            draws: Streams::open(alloc, seed, 2 * flat.acts())?,
-            tables: tables(alloc, flat)?,
+            draws: Streams::open(alloc, seed, &drawn)?,
+            tables: delay_tables(alloc, flat)?,
         })
     }
 

@@ -10,12 +10,22 @@ use rand_core::utils::NextWord;
 use std::marker::Model;
 
 /// A generator of this seed, at the start of stream 0.
-pub(crate) fn generator(seed: u64) -> ChaCha20Rng
+fn generator(seed: u64) -> ChaCha20Rng
     ensures key { result.key ≡ key_of (key_bytes seed) }
 {
     let mut key = [0u8; 32];
     key[0..8].copy_from_slice(&seed.to_le_bytes());
     ChaCha20Rng::from_seed(key)
+}
+
+/// A generator of a stream of this seed.
+pub(crate) fn generator_of(seed: u64, stream: u64) -> ChaCha20Rng
+    ensures key { result.key ≡ key_of (key_bytes seed) }
+    ensures stream { result.stream ≡ stream }
+{
+    let mut rng = generator(seed);
+    rng.set_stream(stream);
+    rng
 }
 
 /// Draw k of the generator's stream. Draws in order use the words of the blocks that are made.

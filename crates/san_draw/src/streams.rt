@@ -1,20 +1,21 @@
-//! The draws of a seed with a generator for each stream, for draws in turn.
-ghost use Rattle.std.specs.Prelude.{◌≡◌, ◌<◌, ◌≤◌, IfOk};
+//! The draws of a seed with a generator for each stream that is drawn from, for draws in turn.
+ghost use Rattle.std.specs.Prelude.{◌≡◌, ◌<◌, ◌≤◌, IfOk, length};
 ghost use Rattle.san_base.specs.declared.limits.TheConstants.{MAX_DRAWS};
 ghost use Rattle.san_draw.specs.Key.{draw_of};
+ghost use Rattle.san_draw.specs.Streams.{IsOf};
 
-use crate::draws::{draw_from, generator};
+use crate::draws::{draw_from, generator_of};
 use rand_chacha::ChaCha20Rng;
 use san_base::NoMemory;
 use std::alloc::Global;
 use std::marker::Model;
 
-/// The draws of a seed in the streams below a number, each of which keeps the words that its
-/// generator makes at once. Streams drawn in turn, each in order, make no block twice.
+/// The draws of a seed in the streams below a number. Those that are drawn from keep the words that
+/// their generators make at once: drawn in turn, each in order, they make no block twice.
 #[derive(Drop)]
 pub struct Streams {
     seed: u64,
-    generators: Vec<ChaCha20Rng>,
+    generators: Vec<Option<Box<ChaCha20Rng>>>,
 }
 
 impl Model for Streams {
@@ -28,16 +29,43 @@ impl Model for Streams {
     ghost invariant = { λ s. AreOf s.seed 0 s.generators.items };
 }
 
+/// The generator of a stream that is drawn from.
+fn kept(
+    alloc: Global,
+    seed: u64,
+    stream: u64,
+    drawn: bool,
+) -> Result<Option<Box<ChaCha20Rng>>, NoMemory>
+    ensures { IfOk result (λ g. IsOf seed stream g) }
+{
+    if !drawn {
+        return Ok(None);
+    }
+    Ok(Some(Box::new(alloc, generator_of(seed, stream))?))
+}
+
+/// Draw k of a stream, by the generator that is kept or by one for this draw alone.
+fn draw_kept(kept: &mut Option<Box<ChaCha20Rng>>, seed: u64, stream: u64, k: u64) -> u64
+    requires of { IsOf seed stream kept.old }
+    requires number { k < MAX_DRAWS }
+    ensures value { result ≡ draw_of seed stream k }
+    ensures of { IsOf seed stream kept.new }
+{
+    match kept {
+        Some(rng) => draw_from(rng, k),
+        None => draw_from(&mut generator_of(seed, stream), k),
+    }
+}
+
 impl Streams {
-    /// Takes the memory of so many streams.
-    pub fn open(alloc: Global, seed: u64, streams: u32) -> Result<Streams, NoMemory>
-        ensures { IfOk result (λ s. s ≡ record { seed = seed; streams = streams }) }
+    /// Takes the memory of as many streams as are listed. Each may be drawn from; one of which
+    /// nothing is kept makes its words anew at each draw.
+    pub fn open(alloc: Global, seed: u64, drawn: &[bool]) -> Result<Streams, NoMemory>
+        ensures { IfOk result (λ s. s ≡ record { seed = seed; streams = length drawn.now }) }
     {
-        let mut generators = Vec::with_capacity(alloc, streams as usize)?;
-        for stream in 0..streams {
-            let mut rng = generator(seed);
-            rng.set_stream(u64::from(stream));
-            generators.push(rng)?;
+        let mut generators = Vec::with_capacity(alloc, drawn.len())?;
+        for stream in 0..drawn.len() {
+            generators.push(kept(alloc, seed, stream as u64, drawn[stream])?)?;
         }
         Ok(Streams { seed, generators })
     }
@@ -49,6 +77,7 @@ impl Streams {
         ensures value { result ≡ draw_of self.old.seed stream k }
         ensures same { self.new ≡ self.old }
     {
-        draw_from(&mut self.generators[stream as usize], k)
+        let kept = &mut self.generators[stream as usize];
+        draw_kept(kept, self.seed, u64::from(stream), k)
     }
 }

@@ -18,27 +18,13 @@ use crate::state::State;
 use crate::step::{next_of, step};
 use crate::steps::{Stable, Stepped, Trajectory};
 use crate::wakes::Wakes;
-use san_base::{Ending, Event, Items, LeafId, Limits, NoMemory, Tick};
+use san_base::{Ending, Event, Items, Limits, NoMemory, Tick};
+use san_clock::{delay_tables, drawn_streams};
 use san_delay::DelayTables;
 use san_draw::Streams;
-use san_expr::Dist;
-use san_net::{ActKind, Flat};
+use san_net::Flat;
 use std::alloc::Global;
 use std::marker::Model;
-
-/// The tables of all delays.
-pub(crate) fn tables(alloc: Global, flat: &Flat) -> Result<DelayTables, NoMemory> {
-    let mut delays: Vec<&Dist> = Vec::new(alloc);
-    'leaves: for j in 0..flat.leaves() {
-        let atomic = flat.part(LeafId(j)).get().atomic.get();
-        'acts: for act in atomic.acts.as_slice() {
-            if let ActKind::Timed { delay, .. } = &act.1.kind {
-                delays.push(delay)?;
-            }
-        }
-    }
-    DelayTables::open(alloc, &delays)
-}
 
 /// A run of a network, one step after another. All of its memory is taken by `open`.
 #[derive(Drop)]
@@ -117,8 +103,9 @@ impl<'a> Seq<'a> {
         ensures { IfOk result (λ r. r ≡ run.opening flat.now seed limits) }
     {
         flat.is_network();
-        let tables = tables(alloc, flat)?;
-        let streams = Streams::open(alloc, seed, 2 * flat.acts())?;
+        let tables = delay_tables(alloc, flat)?;
+        let drawn = drawn_streams(alloc, flat)?;
+        let streams = Streams::open(alloc, seed, &drawn)?;
         let marking = flat.initial_marking(alloc)?;
         let stable = flat.initial_marking(alloc)?;
         let rows = Rows::open(alloc, flat)?;

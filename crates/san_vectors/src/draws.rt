@@ -32,7 +32,7 @@ fn draws(rt: HostRuntime) -> Result<(), Fail> {
             assert_eq!(rt; draws.draw(stream, k), draw);
         }
     }
-    let mut streams = Streams::open(rt.alloc(), 7, 2)?;
+    let mut streams = Streams::open(rt.alloc(), 7, &[false, true])?;
     assert_eq!(rt; streams.draw(1, 31), 0x5332388b5d81cef8);
     assert_eq!(rt; streams.draw(0, 0), 0x44984265b9e39ef1);
     assert_eq!(rt; streams.draw(1, 32), 0xfa367ee74ea3bee2);

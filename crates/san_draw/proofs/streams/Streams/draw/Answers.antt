@@ -1,22 +1,19 @@
-use Rattle.std.proofs.Common.{◌∙◌, ◌<◌, length, ap, arith, zero-add}
-use Rattle.rand_chacha.specs.ChaCha.{ChaCha, key_of}
-use Rattle.san_draw.specs.Key.{key_bytes}
-use Rattle.san_draw.proofs.StreamLemmas.{are_key, are_set, are_stream, draw_is}
+use Rattle.std.proofs.Common.{◌≡◌, ◌+◌, ◌<◌, length, get_or, ap, sym, arith, subst}
+use Rattle.san_draw.specs.Streams.{IsOf, Seeded}
+use Rattle.san_draw.proofs.StreamLemmas.{are_at, are_set}
 use Rattle.san_draw.proofs.streams.Streams.draw.Goals as goal
+
+pub draw_kept-requires-clause-of : goal.draw_kept-requires-clause-of
+draw_kept-requires-clause-of c =
+    let gs = c.self.inside.generators.items in
+    let within : c.args.stream < length gs = omega (arith, c.requires.stream, c.self.inside.generators.ok, ap (λ (o : Seeded). o.streams) c.self.view_is) in
+    let same : 0 + c.args.stream ≡ c.from.result = omega (arith, c.from.ensures) in
+    let kept = c.index_mut-kept.result.now in
+    subst (λ g. IsOf c.self.inside.seed c.from.result g) (sym c.index_mut-kept.ensures.value)
+    (subst (λ s. IsOf c.self.inside.seed s (get_or gs c.args.stream kept)) same (are_at c.self.inside.seed 0 gs c.args.stream kept c.self.invariant within))
 
 pub invariant_of-self : goal.invariant_of-self
 invariant_of-self c =
-    let gs = c.self.inside.generators.items in
-    let within : c.args.stream < length gs = omega (arith, c.requires.stream, c.self.inside.generators.ok, ap (λ (o : Rattle.san_draw.specs.Streams.Seeded). o.streams) c.self.view_is) in
-    let key = ap (λ (g : ChaCha). g.key) c.index_mut.ensures.value ∙ are_key c.self.inside.seed 0 gs c.args.stream _ c.self.invariant within in
-    let stream = ap (λ (g : ChaCha). g.stream) c.index_mut.ensures.value ∙ are_stream c.self.inside.seed 0 gs c.args.stream _ c.self.invariant within in
-    are_set c.self.inside.seed 0 gs c.args.stream c.draw_from.new.rng c.self.invariant (c.draw_from.ensures.same.0 ∙ key) (c.draw_from.ensures.same.1 ∙ stream)
-
-pub returns-clause-value : goal.returns-clause-value
-returns-clause-value c =
-    let gs = c.self.inside.generators.items in
-    let within : c.args.stream < length gs = omega (arith, c.requires.stream, c.self.inside.generators.ok, ap (λ (o : Rattle.san_draw.specs.Streams.Seeded). o.streams) c.self.view_is) in
-    let key = ap (λ (g : ChaCha). g.key) c.index_mut.ensures.value ∙ are_key c.self.inside.seed 0 gs c.args.stream _ c.self.invariant within in
-    let stream = ap (λ (g : ChaCha). g.stream) c.index_mut.ensures.value ∙ are_stream c.self.inside.seed 0 gs c.args.stream _ c.self.invariant within in
-    c.draw_from.ensures.value
-    ∙ draw_is _ _ _ _ c.args.k (key ∙ ap (λ (o : Rattle.san_draw.specs.Streams.Seeded). key_of (key_bytes o.seed)) c.self.view_is) (stream ∙ zero-add c.args.stream)
+    let same : c.from.result ≡ 0 + c.args.stream = omega (arith, c.from.ensures) in
+    are_set c.self.inside.seed 0 c.self.inside.generators.items c.args.stream c.draw_kept.new.kept c.self.invariant
+    (subst (λ s. IsOf c.self.inside.seed s c.draw_kept.new.kept) same c.draw_kept.ensures.of)
