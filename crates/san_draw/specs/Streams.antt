@@ -10,11 +10,11 @@ pub record Seeded : Type 0 where
   pub streams : ℕ
 
 -- the generator that is kept of a stream, if one is, is of this seed and this stream
-abbrev pub IsOf : ℕ → ℕ → Option (Box ChaCha) → Type 0
-IsOf seed stream None = Unit {0}
-IsOf seed stream (Some g) = (g.value.key ≡ key_of (key_bytes seed)) × (g.value.stream ≡ stream)
+abbrev pub IsGeneratorOf : ℕ → ℕ → Option (Box ChaCha) → Type 0
+IsGeneratorOf seed stream None = Unit {0}
+IsGeneratorOf seed stream (Some g) = (g.value.key ≡ key_of (key_bytes seed)) × (g.value.stream ≡ stream)
 
 -- the generators are of this seed, and of the streams from a number on
 abbrev pub AreOf : ℕ → ℕ → List (Option (Box ChaCha)) → Type 0
 AreOf seed stream [] = Unit {0}
-AreOf seed stream (g ∷ gs) = IsOf seed stream g × AreOf seed (suc stream) gs
+AreOf seed stream (g ∷ gs) = IsGeneratorOf seed stream g × AreOf seed (suc stream) gs

@@ -2,7 +2,7 @@
 ghost use Rattle.std.specs.Prelude.{◌≡◌, ◌<◌, ◌≤◌, IfOk, length};
 ghost use Rattle.san_base.specs.declared.limits.TheConstants.{MAX_DRAWS};
 ghost use Rattle.san_draw.specs.Key.{draw_of};
-ghost use Rattle.san_draw.specs.Streams.{IsOf};
+ghost use Rattle.san_draw.specs.Streams.{IsGeneratorOf};
 
 use crate::draws::{draw_from, generator_of};
 use rand_chacha::ChaCha20Rng;
@@ -36,7 +36,7 @@ fn kept(
     stream: u64,
     drawn: bool,
 ) -> Result<Option<Box<ChaCha20Rng>>, NoMemory>
-    ensures { IfOk result (λ g. IsOf seed stream g) }
+    ensures { IfOk result (λ g. IsGeneratorOf seed stream g) }
 {
     if !drawn {
         return Ok(None);
@@ -46,10 +46,10 @@ fn kept(
 
 /// Draw k of a stream, by the generator that is kept or by one for this draw alone.
 fn draw_kept(kept: &mut Option<Box<ChaCha20Rng>>, seed: u64, stream: u64, k: u64) -> u64
-    requires of { IsOf seed stream kept.old }
+    requires of { IsGeneratorOf seed stream kept.old }
     requires number { k < MAX_DRAWS }
     ensures value { result ≡ draw_of seed stream k }
-    ensures of { IsOf seed stream kept.new }
+    ensures of { IsGeneratorOf seed stream kept.new }
 {
     match kept {
         Some(rng) => draw_from(rng, k),
