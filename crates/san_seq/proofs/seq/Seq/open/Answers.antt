@@ -8,7 +8,7 @@ use Rattle.san_seq.proofs.seq.Seq.open.Goals as goal
 
 pub invariant_of-result : goal.invariant_of-result
 invariant_of-result c =
-    let many = ap (λ s. s.streams) c.in_ok-streams.ensures ∙ ap length c.in_ok-drawn.ensures ∙ two_of_all c.args.flat.now.parts in
+    let many = ap (λ s. s.streams) c.in_ok-streams.ensures ∙ ap length c.deref.ensures.value ∙ ap length c.in_ok-drawn.ensures ∙ two_of_all c.args.flat.now.parts in
     record {
       range = c.requires;
       draws = omega (arith, many);
