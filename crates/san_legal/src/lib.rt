@@ -3,4 +3,7 @@
 
 mod locality;
 
-pub use locality::a_renewal_looks_at_the_draws_that_it_takes;
+pub use locality::{
+    a_completion_looks_at_the_draw_that_it_takes, a_renewal_looks_at_the_draws_that_it_takes,
+    a_run_looks_at_the_draws_that_it_takes,
+};
