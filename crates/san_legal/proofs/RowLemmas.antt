@@ -76,3 +76,11 @@ pub set_there : (rows : List Row) (j k : ℕ) (new : Row) → k < length (row_at
 set_there [] j k new h = absurd (omega (arith, h))
 set_there (r ∷ rows) zero k new h = refl
 set_there (r ∷ rows) (suc j) k new h = set_there rows j k new h
+
+-- what a row that is set has as the old one had it
+pub set_keeps : {A : Type 0} (f : Row → A) (rows : List Row) (j : ℕ) (new : Row) → f new ≡ f (row_at rows j) → (i : ℕ) → f (row_at (slice_set rows j new) i) ≡ f (row_at rows i)
+set_keeps f [] j new e i = refl
+set_keeps f (r ∷ rows) zero new e zero = e
+set_keeps f (r ∷ rows) zero new e (suc i) = refl
+set_keeps f (r ∷ rows) (suc j) new e zero = refl
+set_keeps f (r ∷ rows) (suc j) new e (suc i) = set_keeps f rows j new e i

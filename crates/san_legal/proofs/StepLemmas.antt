@@ -67,10 +67,10 @@ completion_looks_at_taken part draw other k l d sized is agree =
 -- ---- a step
 
 module _ (network : Network) (limits : Limits) (draw other : ℕ → ℕ → ℕ) where
-  abbrev one : Net
+  abbrev pub one : Net
   one = net_of draw network limits
 
-  abbrev two : Net
+  abbrev pub two : Net
   two = net_of other network limits
 
   -- what stands next needs no draw
@@ -152,10 +152,10 @@ module _ (network : Network) (limits : Limits) (draw other : ℕ → ℕ → ℕ
   abbrev done_two : Result Done Trap
   done_two = completed other (part_at network j) k (local_of (one network limits draw other) u j)
 
-  abbrev left : Result Done Trap → Stepped × State
+  abbrev pub left : Result Done Trap → Stepped × State
   left p = complete (one network limits draw other) u burst j k p
 
-  complete_same : (p : Result Done Trap) → complete (two network limits draw other) u burst j k p ≡ left p
+  pub complete_same : (p : Result Done Trap) → complete (two network limits draw other) u burst j k p ≡ left p
   complete_same (Ok d) = refl
   complete_same (Err trap) = refl
 
