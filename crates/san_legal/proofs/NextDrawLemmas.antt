@@ -1,8 +1,9 @@
 -- A step looks at no draw but the next of each activity.
-use Rattle.std.proofs.Common.{ℕ, zero, suc, ◌+◌, ◌≡◌, ◌∙◌, ap, sym, subst, refl, arith, List, [], ◌∷◌, map, Option, Some, None, Result, Ok, Err, Bool, true, false, nat_le, cond, slice_set}
+use Rattle.std.proofs.Common.{ℕ, zero, suc, ◌+◌, ◌≤◌, ◌<◌, ◌≡◌, ◌∙◌, ◌⊎◌, inl, inr, ap, sym, subst, refl, arith, List, [], ◌∷◌, length, map, Option, Some, None, Result, Ok, Err, Bool, true, false, nat_le, cond, slice_index_or, slice_set}
+use Rattle.std.proofs.lemmas.Bool.{cases_lt}
 use Rattle.std.specs.Prelude.{slice_index}
 use Rattle.san_base.specs.declared.ending.Trap.{Trap}
-use Rattle.san_law.specs.Activity.{ActKind, Activity, Instant, Part, Timed, case_stream, completed, delay_stream}
+use Rattle.san_law.specs.Activity.{ActKind, Activity, Instant, Part, Timed, activity_of, case_stream, completed, delay_stream, done_by, no_activity}
 use Rattle.san_law.specs.Clocks.{Clock, Clocks, clock_then, delayed_by, renewed_act, renewed_acts, renewed_row, row_of_clocks, timed_by}
 use Rattle.san_law.specs.Net.{Done, Local, Net, Renewing, Row, Timer, least_timer, without_timer}
 use Rattle.san_law.specs.Network.{Limits, Network, net_of, part_at}
@@ -21,22 +22,38 @@ act_next : (draw other : ℕ → ℕ) (time : ℕ) (seen values : List ℕ) (a :
 act_next draw other time seen values a (Instant p) x n e = refl
 act_next draw other time seen values a (Timed delay pair) x n e = ap (λ (u : ℕ). timed_by seen values x n pair (delayed_by time n values pair (delay u values)) (a.enabled values)) (sym e)
 
-acts_next : (draws others : ℕ → ℕ → ℕ) (time : ℕ) (seen values : List ℕ) (k : ℕ) (acts : List Activity) (ts : List (Option Timer)) (ns : List ℕ) → ((i : ℕ) → draws (k + i) (slice_index ns i) ≡ others (k + i) (slice_index ns i))
+acts_next : (draws others : ℕ → ℕ → ℕ) (time : ℕ) (seen values : List ℕ) (k : ℕ) (acts : List Activity) (ts : List (Option Timer)) (ns : List ℕ) → ((i : ℕ) → i < length acts → draws (k + i) (slice_index ns i) ≡ others (k + i) (slice_index ns i))
     → renewed_acts others time seen values k acts ts ns ≡ renewed_acts draws time seen values k acts ts ns
 acts_next draws others time seen values k [] ts ns h = refl
 acts_next draws others time seen values k (a ∷ acts) [] ns h = refl
 acts_next draws others time seen values k (a ∷ acts) (t ∷ ts) [] h = refl
 acts_next draws others time seen values k (a ∷ acts) (t ∷ ts) (n ∷ ns) h =
     let here : k + 0 ≡ k = omega arith in
-    let first : draws k n ≡ others k n = subst (λ (x : ℕ). draws x n ≡ others x n) here (h 0) in
-    let rest = acts_next draws others time seen values (suc k) acts ts ns (λ i. (let there : k + suc i ≡ suc k + i = omega arith in subst (λ (x : ℕ). draws x (slice_index ns i) ≡ others x (slice_index ns i)) there (h (suc i)))) in
+    let first : draws k n ≡ others k n = subst (λ (x : ℕ). draws x n ≡ others x n) here (h 0 (omega arith)) in
+    let rest = acts_next draws others time seen values (suc k) acts ts ns (λ i l. (let there : k + suc i ≡ suc k + i = omega arith in subst (λ (x : ℕ). draws x (slice_index ns i) ≡ others x (slice_index ns i)) there (h (suc i) (omega (arith, l))))) in
     ap (λ (x : Result Clock Trap). clock_then k x (renewed_acts others time seen values (suc k) acts ts ns)) (act_next (draws k) (others k) time seen values a a.kind t n first)
     ∙ ap (clock_then k (renewed_act (draws k) time seen values a a.kind t n)) rest
+
+-- where there is no such activity, none completes
+none_there : (acts : List Activity) (k : ℕ) → length acts ≤ k → slice_index_or acts k no_activity ≡ no_activity
+none_there [] k h = refl
+none_there (a ∷ acts) zero h = absurd (omega (arith, h))
+none_there (a ∷ acts) (suc k) h = none_there acts k (omega (arith, h))
+
+done_next : (draw other : ℕ → ℕ → ℕ) (part : Part) (k : ℕ) (l : Local) → (k < length part.activities → draw (case_stream part k) (slice_index l.row.cases k) ≡ other (case_stream part k) (slice_index l.row.cases k)) → completed other part k l ≡ completed draw part k l
+done_next draw other part k l same = by_place (cases_lt k (length part.activities))
+  where
+    by_place : (k < length part.activities) ⊎ (length part.activities ≤ k) → completed other part k l ≡ completed draw part k l
+    by_place (inl h) = completed_by draw other part k l (same h)
+    by_place (inr h) =
+        let none : activity_of part k ≡ no_activity = none_there part.activities k h in
+        let of = λ (a : Activity) (u : ℕ). done_by l.row k a (a.complete u l.values) in
+        ap (λ (a : Activity). of a (other (case_stream part k) (slice_index l.row.cases k))) none ∙ sym (ap (λ (a : Activity). of a (draw (case_stream part k) (slice_index l.row.cases k))) none)
 
 row_next : (draw other : ℕ → ℕ → ℕ) (part : Part) (time : ℕ) (seen : List ℕ) (l : Local) → AgreeNext draw other part l.row → renewed_row other part time seen l ≡ renewed_row draw part time seen l
 row_next draw other part time seen l agree =
     ap (row_of_clocks l.row.cases) (acts_next (λ k. draw (delay_stream part k)) (λ k. other (delay_stream part k)) time seen l.values 0 part.activities l.row.timers l.row.delays
-    (λ i. (let here : 0 + i ≡ i = omega arith in subst (λ (k : ℕ). draw (delay_stream part k) (slice_index l.row.delays i) ≡ other (delay_stream part k) (slice_index l.row.delays i)) (sym here) (agree.delays i))))
+    (λ i h. (let here : 0 + i ≡ i = omega arith in subst (λ (k : ℕ). draw (delay_stream part k) (slice_index l.row.delays i) ≡ other (delay_stream part k) (slice_index l.row.delays i)) (sym here) (agree.delays i h))))
 
 module _ (network : Network) (limits : Limits) (draw other : ℕ → ℕ → ℕ) where
   abbrev first : Net
@@ -55,11 +72,11 @@ module _ (network : Network) (limits : Limits) (draw other : ℕ → ℕ → ℕ
 
   -- ---- a completion
 
-  completes_next : (u : State) (burst j k : ℕ) → draw (case_stream (part_at network j) k) (slice_index (row_of u j).cases k) ≡ other (case_stream (part_at network j) k) (slice_index (row_of u j).cases k)
+  completes_next : (u : State) (burst j k : ℕ) → (k < length (part_at network j).activities → draw (case_stream (part_at network j) k) (slice_index (row_of u j).cases k) ≡ other (case_stream (part_at network j) k) (slice_index (row_of u j).cases k))
       → complete second u burst j k (second.done j k (local_of second u j)) ≡ complete first u burst j k (first.done j k (local_of first u j))
   completes_next u burst j k e =
       complete_same network limits draw other u burst j k (second.done j k (local_of second u j))
-      ∙ ap (left network limits draw other u burst j k) (completed_by draw other (part_at network j) k (local_of first u j) e)
+      ∙ ap (left network limits draw other u burst j k) (done_next draw other (part_at network j) k (local_of first u j) e)
 
   -- ---- a step
 
@@ -70,8 +87,8 @@ module _ (network : Network) (limits : Limits) (draw other : ℕ → ℕ → ℕ
         let u = fired first s rows d in
         let stay : (row_of u d.leaf).cases ≡ (row_of s d.leaf).cases = set_keeps (λ (r : Row). r.cases) rows d.leaf (without_timer (row_at rows d.leaf) d.act) refl d.leaf ∙ (more d.leaf).1 in
         let part = part_at network d.leaf in
-        let same : draw (case_stream part d.act) (slice_index (row_of u d.leaf).cases d.act) ≡ other (case_stream part d.act) (slice_index (row_of u d.leaf).cases d.act)
-                 = subst (λ (cs : List ℕ). draw (case_stream part d.act) (slice_index cs d.act) ≡ other (case_stream part d.act) (slice_index cs d.act)) (sym stay) ((agree d.leaf).cases d.act) in
+        let same = λ (h : d.act < length part.activities). (let now : draw (case_stream part d.act) (slice_index (row_of u d.leaf).cases d.act) ≡ other (case_stream part d.act) (slice_index (row_of u d.leaf).cases d.act)
+                 = subst (λ (cs : List ℕ). draw (case_stream part d.act) (slice_index cs d.act) ≡ other (case_stream part d.act) (slice_index cs d.act)) (sym stay) ((agree d.leaf).cases d.act h) in now) in
         ap (unless_over u (count_limit first u.count)) (completes_next u 0 d.leaf d.act same)
 
     due_next : (rows : List Row) → MoreIn s.rows (AllFresh rows) → (o : Option Due) → at_due second s rows o ≡ at_due first s rows o
