@@ -4,7 +4,7 @@ use Rattle.std.specs.Prelude.{slice_index}
 use Rattle.san_base.specs.declared.ending.Trap.{Trap}
 use Rattle.san_law.specs.Net.{Faulty, Fresh, Local, Renewing, Row, Timer}
 use Rattle.san_law.specs.Activity.{ActKind, Activity, Answer, Instant, No, Pair, Part, Timed, Traps, Yes, delay_stream}
-use Rattle.san_law.specs.Clocks.{AllClocks, BadClock, Clock, Clocks, activated, again_by, clock_then, delayed_by, held_by, kept_by, paired_by, renewed_act, renewed_acts, renewed_row, row_of_clocks, same_list, timed_by}
+use Rattle.san_law.specs.Clocks.{AllClocks, BadClock, Clock, Clocks, activated, again_by, clock_then, delayed_by, held_by, paired_by, renewed_act, renewed_acts, renewed_row, row_of_clocks, same_list, timed_by}
 use Rattle.san_legal.specs.Draws.{AgreeOn}
 use Rattle.san_legal.specs.Locality.{RenewalLooksAtTaken}
 use Rattle.san_legal.proofs.RowLemmas.{IsMore}
@@ -124,9 +124,10 @@ module _ (draws others : ℕ → ℕ → ℕ) (time : ℕ) (seen values : List �
   agree_by k [] ms h = tt
   agree_by k (n ∷ ns) [] h = tt
   agree_by k (n ∷ ns) (m ∷ ms) h =
-      let here : k + 0 ≡ k = omega arith in
-      ((λ l. subst (λ (x : ℕ). draws x n ≡ others x n) here (h 0 n (omega arith) l)),
-       agree_by (suc k) ns ms (λ i p a b. (let there : k + suc i ≡ suc k + i = omega arith in subst (λ (x : ℕ). draws x p ≡ others x p) there (h (suc i) p a b))))
+      let here : k + 0 ≡ k = omega arith in (
+        (λ l. subst (λ (x : ℕ). draws x n ≡ others x n) here (h 0 n (omega arith) l)),
+        agree_by (suc k) ns ms (λ i p a b. (let there : k + suc i ≡ suc k + i = omega arith in subst (λ (x : ℕ). draws x p ≡ others x p) there (h (suc i) p a b))),
+      )
 
 -- as many, and no smaller numbers
 abbrev Grow : List (Option Timer) → List ℕ → Clocks → Type 0

@@ -1,16 +1,16 @@
 -- A step looks at no draw but the next of each activity.
-use Rattle.std.proofs.Common.{ℕ, zero, suc, ◌+◌, ◌≤◌, ◌<◌, ◌≡◌, ◌∙◌, ◌⊎◌, inl, inr, ap, sym, subst, refl, arith, List, [], ◌∷◌, length, map, Option, Some, None, Result, Ok, Err, Bool, true, false, nat_le, cond, slice_index_or, slice_set}
+use Rattle.std.proofs.Common.{ℕ, zero, suc, ◌+◌, ◌≤◌, ◌<◌, ◌≡◌, ◌∙◌, ◌⊎◌, inl, inr, ap, sym, subst, refl, arith, List, [], ◌∷◌, length, map, Option, Some, None, Result, nat_le, cond, slice_index_or}
 use Rattle.std.proofs.lemmas.Bool.{cases_lt}
 use Rattle.std.specs.Prelude.{slice_index}
 use Rattle.san_base.specs.declared.ending.Trap.{Trap}
 use Rattle.san_law.specs.Activity.{ActKind, Activity, Instant, Part, Timed, activity_of, case_stream, completed, delay_stream, done_by, no_activity}
-use Rattle.san_law.specs.Clocks.{Clock, Clocks, clock_then, delayed_by, renewed_act, renewed_acts, renewed_row, row_of_clocks, timed_by}
-use Rattle.san_law.specs.Net.{Done, Local, Net, Renewing, Row, Timer, least_timer, without_timer}
-use Rattle.san_law.specs.Network.{Limits, Network, net_of, part_at}
+use Rattle.san_law.specs.Clocks.{Clock, clock_then, delayed_by, renewed_act, renewed_acts, renewed_row, row_of_clocks, timed_by}
+use Rattle.san_law.specs.Net.{Local, Net, Renewing, Row, Timer, least_timer, without_timer}
+use Rattle.san_law.specs.Network.{Limits, Network, part_at}
 use Rattle.san_law.specs.Next.{Completes, Next, Stable, TrapsAt, next_instant}
 use Rattle.san_law.specs.Renewal.{AllFresh, Due, FaultAt, Renewal, least_from, renewed_at, renewed_from, renewed_then}
 use Rattle.san_law.specs.State.{State, gather, local_of, row_of, slots_of}
-use Rattle.san_law.specs.Step.{End, Ending, Over, Stepped, at_due, at_next, at_rest, complete, count_limit, fire, fired, limit_at, step, unless_over}
+use Rattle.san_law.specs.Step.{End, Over, Stepped, at_due, at_next, at_rest, complete, count_limit, fire, fired, limit_at, step, unless_over}
 use Rattle.san_legal.specs.Draws.{AgreeNext}
 use Rattle.san_legal.specs.Locality.{StepLooksAtNext}
 use Rattle.san_legal.proofs.RowLemmas.{row_at, set_keeps}
@@ -88,7 +88,7 @@ module _ (network : Network) (limits : Limits) (draw other : ℕ → ℕ → ℕ
         let stay : (row_of u d.leaf).cases ≡ (row_of s d.leaf).cases = set_keeps (λ (r : Row). r.cases) rows d.leaf (without_timer (row_at rows d.leaf) d.act) refl d.leaf ∙ (more d.leaf).1 in
         let part = part_at network d.leaf in
         let same = λ (h : d.act < length part.activities). (let now : draw (case_stream part d.act) (slice_index (row_of u d.leaf).cases d.act) ≡ other (case_stream part d.act) (slice_index (row_of u d.leaf).cases d.act)
-                 = subst (λ (cs : List ℕ). draw (case_stream part d.act) (slice_index cs d.act) ≡ other (case_stream part d.act) (slice_index cs d.act)) (sym stay) ((agree d.leaf).cases d.act h) in now) in
+        = subst (λ (cs : List ℕ). draw (case_stream part d.act) (slice_index cs d.act) ≡ other (case_stream part d.act) (slice_index cs d.act)) (sym stay) ((agree d.leaf).cases d.act h) in now) in
         ap (unless_over u (count_limit first u.count)) (completes_next u 0 d.leaf d.act same)
 
     due_next : (rows : List Row) → MoreIn s.rows (AllFresh rows) → (o : Option Due) → at_due second s rows o ≡ at_due first s rows o

@@ -1,21 +1,19 @@
 -- A step and a run with other draws.
-use Rattle.std.proofs.Common.{ℕ, zero, suc, ◌+◌, ◌≤◌, ◌<◌, ◌≡◌, ◌∙◌, ap, sym, subst, refl, arith, List, [], ◌∷◌, length, map, Option, Some, None, Result, Ok, Err, Bool, true, false, nat_le, cond, slice_index_or, slice_set}
+use Rattle.std.proofs.Common.{ℕ, zero, suc, ◌+◌, ◌<◌, ◌≡◌, ◌∙◌, ap, sym, subst, refl, arith, List, [], ◌∷◌, length, map, Option, Some, None, Result, Ok, Err, Bool, true, false, nat_le, cond, slice_index_or}
 use Rattle.std.specs.Prelude.{slice_index}
 use Rattle.san_base.specs.declared.ending.Trap.{Trap}
-use Rattle.san_law.proofs.Firsts.{is_before_all}
 use Rattle.san_law.specs.Activity.{Activity, Effected, Part, activity_of, case_stream, completed, done_by, no_activity, with_case}
 use Rattle.san_law.specs.Net.{Done, Faulty, Fresh, Local, Net, Renewing, Row, least_timer, without_timer}
 use Rattle.san_law.specs.Network.{Limits, Network, net_of, part_at}
 use Rattle.san_law.specs.Next.{Completes, Next, Stable, TrapsAt, found_at, last_first, next_instant, next_of, scan}
 use Rattle.san_law.specs.Renewal.{AllFresh, Due, FaultAt, Renewal, and_rest, least_from, renewed_at, renewed_from, renewed_then}
 use Rattle.san_law.specs.State.{State, gather, local_of, row_of, slots_of}
-use Rattle.san_law.specs.Step.{End, Ending, Event, Events, Happened, Over, Stepped, at_due, at_next, at_rest, complete, count_limit, event_of, fire, fired, limit_at, step, unless_over, with_local}
+use Rattle.san_law.specs.Step.{End, Ending, Event, Happened, Over, Stepped, at_due, at_next, at_rest, complete, count_limit, fire, fired, limit_at, step, unless_over}
 use Rattle.san_law.specs.Trajectory.{Runs}
 use Rattle.san_legal.specs.Draws.{AgreeOn, AgreeTaken}
-use Rattle.san_legal.specs.Locality.{CompletionLooksAtTaken, IsSized, IsSizedRow, RunLooksAtTaken, StepLooksAtTaken}
+use Rattle.san_legal.specs.Locality.{CompletionLooksAtTaken, IsSized, RunLooksAtTaken, StepLooksAtTaken}
 use Rattle.san_legal.proofs.RowLemmas.{IsMore, case_more, case_one, more_then, row_at, same_more, set_more, set_there, timer_more}
-use Rattle.san_legal.proofs.DrawLemmas.{MoreBy, row_again, row_more, same_fresh}
-use Rattle.san_legal.proofs.WithinLemmas.{NextIsUnder, due_under, first_under, next_under}
+use Rattle.san_legal.proofs.DrawLemmas.{MoreBy, row_again, row_more}
 
 -- ---- agreement over less
 
@@ -227,9 +225,9 @@ module _ (network : Network) (limits : Limits) (draw other : ℕ → ℕ → ℕ
         more = λ i. more_then (row_of s i) (row_at rows i) (row_of t i) (new i) (rest.more i);
         again = λ agree. (
             let rows_agree : AgreeRows network limits draw other 0 s.rows rows = λ i. (
-                let here : 0 + i ≡ i = omega arith in
-                subst (λ (k : ℕ). AgreeOn draw other (part_at network k) (row_of s i) (row_at rows i)) (sym here)
-                (agree_less draw other (part_at network i) (row_of s i) (row_of s i) (row_at rows i) (row_of t i) (same_more (row_of s i)) (rest.more i) (agree i))) in
+            let here : 0 + i ≡ i = omega arith in
+            subst (λ (k : ℕ). AgreeOn draw other (part_at network k) (row_of s i) (row_at rows i)) (sym here)
+            (agree_less draw other (part_at network i) (row_of s i) (row_of s i) (row_at rows i) (row_of t i) (same_more (row_of s i)) (rest.more i) (agree i))) in
             ap (at_rest second s) (from_again network limits draw other s 0 s.rows rows is rows_agree) ∙ rest.again agree);
       }
 

@@ -1,6 +1,5 @@
 -- What completes is an activity of its leaf.
-use Rattle.std.proofs.Common.{ℕ, zero, suc, ◌+◌, ◌≤◌, ◌<◌, ◌≡◌, ap, sym, refl, subst, arith, List, [], ◌∷◌, length, Option, Some, None, Bool, true, false, nat_lt, cond, slice_index_or}
-use Rattle.san_base.specs.declared.ending.Trap.{Trap}
+use Rattle.std.proofs.Common.{ℕ, zero, suc, ◌+◌, ◌≤◌, ◌<◌, ◌≡◌, arith, List, [], ◌∷◌, length, Option, Some, None, Bool, true, false, nat_lt, cond, slice_index_or}
 use Rattle.san_law.specs.Activity.{ActKind, Activity, Answer, Instant, No, Part, Timed, Traps, Yes, activity_of, first_in, first_instant, found_by, instants_from, placed, placed_by}
 use Rattle.san_law.specs.First.{due_of}
 use Rattle.san_law.specs.Net.{Broken, Enabled, Found, Net, Nothing, Timer}
