@@ -131,7 +131,7 @@ module _ (network : Network) (apart : AreApart network) (limits : Limits) where
       let fit : IsSized network runs.0 = subst (IsSized network) now (more_sized network s (step one s).1 sized more) in
       step_before s t es x e runs.0 sized first (of_draws runs.0 t es x fit runs.2 last)
 
-  free_by : (draw : ℕ → ℕ → ℕ) → AreDraws draw → (s t : State) (es : List Event) → Runs (net_of draw network limits) s es t → FreeRuns network limits s es t
+  pub free_by : (draw : ℕ → ℕ → ℕ) → AreDraws draw → (s t : State) (es : List Event) → Runs (net_of draw network limits) s es t → FreeRuns network limits s es t
   free_by draw words s t [] runs = runs
   free_by draw words s t (e ∷ es) runs =
       let y = step (net_of draw network limits) s in

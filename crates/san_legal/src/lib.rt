@@ -1,10 +1,22 @@
-//! The law of free runs: what a run does with any draws.
+//! The law of free runs: which runs some draws give, judged without the draws.
 #![tactic(auto)]
 
+mod delays;
+mod examples;
 mod free;
+mod kept;
 mod locality;
 
+pub use delays::{
+    delays_are_those_of_draws, networks_are_free, the_latest_due_time_decides,
+    weighted_cases_are_drawn,
+};
+pub use examples::{a_small_race, small_delays};
 pub use free::free_runs_are_of_some_draws;
+pub use kept::{
+    a_kept_state_is_one, kept_states_are_those_of_runs, legal_events_are_those_of_runs,
+    legal_runs_are_those_of_draws,
+};
 pub use locality::{
     a_completion_looks_at_the_draw_that_it_takes, a_renewal_looks_at_the_draws_that_it_takes,
     a_run_looks_at_the_draws_that_it_takes, a_step_looks_at_next_draws,

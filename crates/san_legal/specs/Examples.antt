@@ -1,0 +1,50 @@
+-- A small network, written out, and what is kept of a run of it.
+use Rattle.std.specs.Prelude.{◌+◌, ◌-◌, nat_le, false, [], ◌∷◌, Some, None, Ok, slice_index}
+use Rattle.san_base.specs.Draws.{pick}
+use Rattle.san_law.specs.Activity.{Activity, Timed}
+use Rattle.san_law.specs.Examples.{after_ticks, assigned, event_at, leaf_with, yes_if}
+use Rattle.san_law.specs.Net.{Net, Private}
+use Rattle.san_law.specs.Network.{Limits, Network}
+use Rattle.san_law.specs.Step.{Event}
+use Rattle.san_legal.specs.Kept.{Kept, KeptRow, KeptState}
+use Rattle.san_legal.specs.KeptSteps.{undrawn}
+
+-- after 2 to 4 ticks, it takes the token of its place
+abbrev pub slow : Activity
+slow = record { kind = Timed (λ u v. Ok (2 + pick u 3)) None; enabled = λ v. yes_if (nat_le 1 (slice_index v 0)); complete = λ u v. assigned ((0, slice_index v 0 - 1) ∷ []) v; impulses = λ v. [] }
+
+-- after 3 ticks, the token of another place
+abbrev pub steady : Activity
+steady = record { kind = after_ticks 3; enabled = λ v. yes_if (nat_le 1 (slice_index v 1)); complete = λ u v. assigned ((1, slice_index v 1 - 1) ∷ []) v; impulses = λ v. [] }
+
+-- one leaf with both
+abbrev pub racing : Network
+racing = record { parts = leaf_with (Private 0 ∷ Private 1 ∷ []) 0 (slow ∷ steady ∷ []) ∷ []; shared = 0; initial = 1 ∷ 1 ∷ []; spans = [] }
+
+abbrev pub ten_ticks : Limits
+ten_ticks = record { horizon = 10; burst = 5; events = 20 }
+
+abbrev pub race : Net
+race = undrawn racing ten_ticks
+
+-- both timers were set at the opening
+abbrev pub set_at_opening : Kept
+set_at_opening = record { since = 0; values = 1 ∷ 1 ∷ []; held = false }
+
+abbrev pub both_run : KeptRow
+both_run = record { timers = Some set_at_opening ∷ Some set_at_opening ∷ []; delays = 1 ∷ 1 ∷ []; cases = 0 ∷ 0 ∷ [] }
+
+abbrev pub at_opening : KeptState
+at_opening = record { time = 0; marking = 1 ∷ 1 ∷ []; stable = 1 ∷ 1 ∷ []; rows = record { timers = None ∷ None ∷ []; delays = 0 ∷ 0 ∷ []; cases = 0 ∷ 0 ∷ [] } ∷ []; burst = 0; last = None; count = 0; leaf = 0; act = 0 }
+
+-- the steady one completes first, at 3
+abbrev pub steady_first : Event
+steady_first = event_at 3 0 1
+
+-- then the slow one is due at 4: at 3 it would have come before, since its number is smaller
+abbrev pub after_steady : KeptState
+after_steady = record { time = 3; marking = 1 ∷ 0 ∷ []; stable = 1 ∷ 1 ∷ []; rows = record { timers = Some set_at_opening ∷ None ∷ []; delays = 1 ∷ 1 ∷ []; cases = 0 ∷ 1 ∷ [] } ∷ []; burst = 0; last = Some 0; count = 1; leaf = 0; act = 1 }
+
+-- the slow one can't be first at 4, when the steady one is due at 3
+abbrev pub slow_first : Event
+slow_first = event_at 4 0 0

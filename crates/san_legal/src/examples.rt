@@ -1,0 +1,34 @@
+//! What is kept of a run of a small network, and delays, computed.
+
+ghost use Rattle.std.specs.Prelude.{◌≡◌, pos, [], ◌∷◌, Ok, Err};
+ghost use Rattle.san_base.specs.declared.ending.Trap.TheVariants as trap;
+ghost use Rattle.san_expr.specs.declared.dist.Dist.TheVariants as dist;
+ghost use Rattle.san_expr.specs.declared.expr.Expr.TheVariants.{Number};
+ghost use Rattle.san_legal.specs.Delays.{Between, Exactly, IsDelayOf, OneOf, delays_of};
+ghost use Rattle.san_legal.specs.Examples.{after_steady, at_opening, both_run, race, racing, slow_first, steady_first, ten_ticks};
+ghost use Rattle.san_legal.specs.Free.{IsFreeNetwork};
+ghost use Rattle.san_legal.specs.Kept.{KeptState};
+ghost use Rattle.san_legal.specs.KeptSteps.{kept_completed, kept_fired, kept_opening};
+ghost use Rattle.san_legal.specs.Laws.{IsKept};
+ghost use Rattle.san_legal.specs.Legal.{due_in};
+
+/// One of two timers completes first, at its only time, and what is kept then leaves the other its
+/// later times; that other one can't come first after the only time of the one.
+#[tactic(auto, using(crate::proofs::Computed::opening_computed, crate::proofs::Computed::completion_computed, crate::proofs::Computed::steady_may_be_first, crate::proofs::Computed::racing_free))]
+pub fn a_small_race()
+    ensures opening { kept_opening race ≡ at_opening }
+    ensures completion { kept_completed race (kept_fired at_opening (both_run ∷ []) (due_in steady_first)) 0 0 1 (1 ∷ 0 ∷ []) ≡ after_steady }
+    ensures comes { IsKept racing ten_ticks (steady_first ∷ []) after_steady }
+    ensures not_first { (k : KeptState) → IsKept racing ten_ticks (slow_first ∷ []) k → ⊥ }
+    ensures free { IsFreeNetwork racing }
+{}
+
+/// A value, a span, an empty span, and a table with an entry of weight 0.
+#[tactic(auto, using(crate::proofs::Computed::span_computed, crate::proofs::Computed::empty_span_traps, crate::proofs::Computed::value_computed, crate::proofs::Computed::light_entry, crate::proofs::Computed::heavy_entry))]
+pub fn small_delays()
+    ensures value { (delays_of (dist.Det (Number (pos 3))) []).answer ≡ Ok (Exactly 3) }
+    ensures span { (delays_of (dist.Uniform (Number (pos 2)) (Number (pos 4))) []).answer ≡ Ok (Between 2 4) }
+    ensures empty_span { (delays_of (dist.Uniform (Number (pos 4)) (Number (pos 2))) []).answer ≡ Err trap.Delay }
+    ensures heavy { IsDelayOf (OneOf ((2, 1) ∷ (5, 0) ∷ [])) 2 }
+    ensures light { IsDelayOf (OneOf ((2, 1) ∷ (5, 0) ∷ [])) 5 → ⊥ }
+{}
