@@ -1,5 +1,5 @@
 -- What is kept of a run of a small network.
-use Rattle.std.proofs.Common.{ℕ, zero, suc, ◌+◌, ◌<◌, ◌≤◌, ◌≡◌, ◌∙◌, inl, inr, ap, sym, refl, subst, arith, List, [], ◌∷◌, length, Some, Result, Ok, Err, false, ℤ, pos}
+use Rattle.std.proofs.Common.{ℕ, zero, suc, ◌+◌, ◌<◌, ◌≤◌, ◌≡◌, ◌∙◌, inl, inr, ap, sym, refl, subst, arith, List, [], ◌∷◌, length, Some, Result, Ok, Err, ℤ, pos}
 use Rattle.std.specs.Prelude.{slice_index}
 use Rattle.san_base.specs.Draws.{pick}
 use Rattle.san_base.specs.declared.ending.Trap.TheVariants as trap
@@ -14,7 +14,7 @@ use Rattle.san_law.specs.Order.{is_in, places_of}
 use Rattle.san_law.specs.State.{index_of, scatter}
 use Rattle.san_base.specs.declared.ending.Trap.{Trap}
 use Rattle.san_legal.proofs.StepLemmas.{same_all}
-use Rattle.san_legal.specs.Examples.{after_steady, at_opening, both_run, race, racing, set_at_opening, slow, slow_first, steady, steady_first, ten_ticks}
+use Rattle.san_legal.specs.Examples.{after_steady, at_opening, both_run, race, racing, set_at_opening, slow, slow_late, steady, steady_first, ten_ticks, two_draws_taken}
 use Rattle.san_legal.specs.Delays.{Between, Delays, Exactly, IsDelayOf, OneOf, delays_of, exactly, span_of}
 use Rattle.san_expr.specs.Delay.{ticks_of}
 use Rattle.san_expr.specs.Meaning.{Meaning, settled, then_do}
@@ -28,7 +28,7 @@ use Rattle.san_legal.specs.Legal.{IsInstant, IsRenewed, IsTimed, MayCome, MayFir
 
 -- the rows that the renewal at the opening gives where all draws are 0
 abbrev opening_rows : List Row
-opening_rows = record { timers = Some (record { due = 2; held = false }) ∷ Some (record { due = 3; held = false }) ∷ []; delays = 1 ∷ 1 ∷ []; cases = 0 ∷ 0 ∷ [] } ∷ []
+opening_rows = two_draws_taken ∷ []
 
 pub opening_computed : kept_opening race ≡ at_opening
 opening_computed = refl
@@ -65,7 +65,7 @@ steady_fires = record {
 abbrev taken : Effected
 taken = record { case = 0; values = put ((1, 0) ∷ []) (1 ∷ 1 ∷ []); sets = λ p. is_in (index_of p (places_of ((1, 0) ∷ []))) }
 
-steady_comes : IsTimed racing ten_ticks at_opening steady_first after_steady
+pub steady_comes : IsTimed racing ten_ticks at_opening steady_first after_steady
 unfolding scatter
 steady_comes = record {
   rows = opening_rows;
@@ -82,7 +82,7 @@ steady_may_be_first = (after_steady, inr steady_comes, refl)
 
 -- ---- the slow one at 4 can't come first
 
-not_instant : (k : KeptState) → IsInstant racing ten_ticks at_opening slow_first k → ⊥
+not_instant : (k : KeptState) → IsInstant racing ten_ticks at_opening slow_late k → ⊥
 not_instant k is = stable (sym opening_renewed.next ∙ is.next)
   where
     stable : (let w : Next = Stable in w) ≡ Completes 0 0 → ⊥
@@ -91,23 +91,23 @@ not_instant k is = stable (sym opening_renewed.next ∙ is.next)
 three : (ticks : ℕ) → (let r : Result ℕ Trap = Ok 3 in r) ≡ Ok ticks → ticks ≡ 3
 three ticks e = cc
 
-not_later : HasOne (due_in slow_first) 0 1 (activity_of (part_at racing 0) 1).kind (Some set_at_opening) → ⊥
+not_later : HasOne (due_in slow_late) 0 1 (activity_of (part_at racing 0) 1).kind (Some set_at_opening) → ⊥
 not_later has = by_order (three has.1.ticks has.1.given.2) has.1.is has.1.later
   where
-    by_order : has.1.ticks ≡ 3 → has.0 ≡ 0 + has.1.ticks → IsLater (due_in slow_first) 0 1 has.0 → ⊥
+    by_order : has.1.ticks ≡ 3 → has.0 ≡ 0 + has.1.ticks → IsLater (due_in slow_late) 0 1 has.0 → ⊥
     by_order t d (inl h) = absurd (omega (arith, t, d, h))
     by_order t d (inr h) = absurd (omega (arith, t, d, h.0))
 
-not_timed : (k : KeptState) → IsTimed racing ten_ticks at_opening slow_first k → ⊥
+not_timed : (k : KeptState) → IsTimed racing ten_ticks at_opening slow_late k → ⊥
 not_timed k is =
     let rows : is.rows ≡ opening_rows = same_all is.rows opening_rows (sym is.fires.renewed.renewed ∙ opening_renewed.renewed) in
-    not_later (subst (λ (rs : List Row). HaveSome racing (due_in slow_first) (kept_fired at_opening (kept_renewed race at_opening rs) (due_in slow_first)).rows) rows is.fires.others 0 1)
+    not_later (subst (λ (rs : List Row). HaveSome racing (due_in slow_late) (kept_fired at_opening (kept_renewed race at_opening rs) (due_in slow_late)).rows) rows is.fires.others 0 1)
 
-not_coming : (k : KeptState) → MayCome racing ten_ticks at_opening slow_first k → ⊥
+not_coming : (k : KeptState) → MayCome racing ten_ticks at_opening slow_late k → ⊥
 not_coming k (inl is) = not_instant k is
 not_coming k (inr is) = not_timed k is
 
-pub slow_cannot_be_first : (k : KeptState) → IsKept racing ten_ticks (slow_first ∷ []) k → ⊥
+pub slow_cannot_be_first : (k : KeptState) → IsKept racing ten_ticks (slow_late ∷ []) k → ⊥
 slow_cannot_be_first k is = not_coming is.0 is.1
 
 -- ---- its draws are free

@@ -129,6 +129,13 @@ place_in : List Part → ℕ → ℕ × ℕ
 place_in [] a = (0, a)
 place_in (p ∷ parts) a = cond (nat_lt a (length p.atomic.acts)) (0, a) (suc (place_in parts (a - length p.atomic.acts)).0, (place_in parts (a - length p.atomic.acts)).1)
 
+-- behind a part
+place_over : (q : Part) (parts : List Part) (a : ℕ) (x : ℕ × ℕ) → length q.atomic.acts ≤ a → place_in parts (a - length q.atomic.acts) ≡ x → place_in (q ∷ parts) a ≡ (suc x.0, x.1)
+unfolding place_in
+place_over q parts a x over rest =
+    ap (λ (b : Bool). cond b (0, a) (suc (place_in parts (a - length q.atomic.acts)).0, (place_in parts (a - length q.atomic.acts)).1)) (le-ltb a (length q.atomic.acts) over)
+    ∙ ap (λ (y : ℕ × ℕ). (let z : ℕ × ℕ = (suc y.0, y.1) in z)) rest
+
 place_is : (parts : List Part) (j k : ℕ) (p : Part) → slice_get parts j ≡ Some p → k < length p.atomic.acts → place_in parts (acts_of (take j parts) + k) ≡ (j, k)
 unfolding place_in
 place_is [] j k p is h = absurd cc
@@ -146,9 +153,7 @@ place_is (q ∷ parts) (suc j) k p is h =
     let more : acts_of (take (suc j) (q ∷ parts)) ≡ n + acts_of (take j parts) = sum_by-cons (λ (x : Part). length x.atomic.acts) q (take j parts) in
     let over : n ≤ a = omega (arith, more) in
     let left : a - n ≡ acts_of (take j parts) + k = omega (arith, more) in
-    let rest : place_in parts (a - n) ≡ (j, k) = ap (place_in parts) left ∙ place_is parts j k p is h in
-    ap (λ (b : Bool). cond b (0, a) (suc (place_in parts (a - n)).0, (place_in parts (a - n)).1)) (le-ltb a n over)
-    ∙ ap (λ (x : ℕ × ℕ). (let y : ℕ × ℕ = (suc x.0, x.1) in y)) rest
+    place_over q parts a (j, k) over (ap (place_in parts) left ∙ place_is parts j k p is h)
 
 module _ (n : Network) (net : IsNetwork n) where
   acts_there : (j k : ℕ) → k < length (law.part_at (network_in n) j).activities → j < length n.parts

@@ -3,9 +3,10 @@ use Rattle.std.specs.Prelude.{◌+◌, ◌-◌, nat_le, false, [], ◌∷◌, So
 use Rattle.san_base.specs.Draws.{pick}
 use Rattle.san_law.specs.Activity.{Activity, Timed}
 use Rattle.san_law.specs.Examples.{after_ticks, assigned, event_at, leaf_with, yes_if}
-use Rattle.san_law.specs.Net.{Net, Private}
+use Rattle.san_law.specs.Net.{Net, Private, Row}
 use Rattle.san_law.specs.Network.{Limits, Network}
-use Rattle.san_law.specs.Step.{Event}
+use Rattle.san_law.specs.Step.{End, Event}
+use Rattle.san_law.specs.Trajectory.{Trajectory}
 use Rattle.san_legal.specs.Kept.{Kept, KeptRow, KeptState}
 use Rattle.san_legal.specs.KeptSteps.{undrawn}
 
@@ -45,6 +46,21 @@ steady_first = event_at 3 0 1
 abbrev pub after_steady : KeptState
 after_steady = record { time = 3; marking = 1 ∷ 0 ∷ []; stable = 1 ∷ 1 ∷ []; rows = record { timers = Some set_at_opening ∷ None ∷ []; delays = 1 ∷ 1 ∷ []; cases = 0 ∷ 1 ∷ [] } ∷ []; burst = 0; last = Some 0; count = 1; leaf = 0; act = 1 }
 
--- the slow one can't be first at 4, when the steady one is due at 3
-abbrev pub slow_first : Event
-slow_first = event_at 4 0 0
+-- at 4 the slow one can't be first, since the steady one is due at 3
+abbrev pub slow_late : Event
+slow_late = event_at 4 0 0
+
+-- after both, none runs
+abbrev pub after_both : KeptState
+after_both = record { time = 4; marking = 0 ∷ 0 ∷ []; stable = 1 ∷ 0 ∷ []; rows = record { timers = None ∷ None ∷ []; delays = 1 ∷ 1 ∷ []; cases = 1 ∷ 1 ∷ [] } ∷ []; burst = 0; last = Some 0; count = 2; leaf = 0; act = 0 }
+
+-- the whole run
+abbrev pub steady_then_slow : Trajectory
+steady_then_slow = record { events = steady_first ∷ slow_late ∷ []; time = 10; ending = End }
+
+-- the rows of the leaf at the opening and after its first renewal, where all draws are 0
+abbrev pub no_draw_taken : Row
+no_draw_taken = record { timers = None ∷ None ∷ []; delays = 0 ∷ 0 ∷ []; cases = 0 ∷ 0 ∷ [] }
+
+abbrev pub two_draws_taken : Row
+two_draws_taken = record { timers = Some (record { due = 2; held = false }) ∷ Some (record { due = 3; held = false }) ∷ []; delays = 1 ∷ 1 ∷ []; cases = 0 ∷ 0 ∷ [] }
