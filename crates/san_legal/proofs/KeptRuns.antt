@@ -1,6 +1,6 @@
 -- Free runs and what is kept of them.
 use Rattle.std.proofs.Common.{ℕ, zero, suc, ◌+◌, ◌-◌, ◌≡◌, ◌∙◌, inl, inr, ap, sym, subst, refl, arith, List, [], ◌∷◌, ◌++◌, length, Option, Some, None, slice_index_or, slice_set}
-use Rattle.san_law.proofs.Trajectories.{rest_is_trajectory}
+use Rattle.san_law.proofs.Trajectories.{has_trajectory, rest_is_trajectory}
 use Rattle.san_law.specs.Activity.{Effected, activity_of}
 use Rattle.san_law.specs.Net.{Net, Row}
 use Rattle.san_law.specs.Network.{Limits, Network, net_of, part_at}
@@ -8,12 +8,12 @@ use Rattle.san_law.specs.Next.{Completes, Next, Stable}
 use Rattle.san_law.specs.Renewal.{Due}
 use Rattle.san_law.specs.State.{State, gather, opening_state, slots_of}
 use Rattle.san_law.specs.Step.{Ending, Event, Happened, Over, Stepped, step}
-use Rattle.san_law.specs.Trajectory.{Runs, Trajectory, ran_by, ran_on, run, trajectory}
+use Rattle.san_law.specs.Trajectory.{Runs, Trajectory, followed_by, ran_by, ran_on, run, trajectory}
 use Rattle.san_legal.specs.Free.{IsFreeNetwork}
 use Rattle.san_legal.specs.FreeRuns.{FreeRuns, IsFreeStep, IsOfDraws}
 use Rattle.san_legal.specs.Kept.{HasOne, HaveSome, IsWithin, Kept, KeptRow, KeptState, bound_of, kept_at, with_rows}
 use Rattle.san_legal.specs.KeptSteps.{kept_case, kept_completed, kept_opening, undrawn}
-use Rattle.san_legal.specs.Laws.{IsKept, IsLegal, IsTrajectory, KeptStateIsOne, KeptStatesAreThoseOfRuns, LegalEventsAreThoseOfRuns, LegalRunsAreThoseOfDraws, Reaches}
+use Rattle.san_legal.specs.Laws.{BeginsRun, IsKept, IsLegal, IsTrajectory, KeptStateIsOne, KeptStatesAreThoseOfRuns, LegalEventsAreThoseOfRuns, LegalEventsBeginRuns, LegalRunsAreThoseOfDraws, Reaches}
 use Rattle.san_legal.specs.Legal.{IsDone, IsInstant, IsTimed, MayCome, MayFollow, due_in, event_by, fired_at}
 use Rattle.san_legal.specs.Locality.{IsSized}
 use Rattle.san_legal.proofs.Chosen.{some_rows}
@@ -225,6 +225,32 @@ module _ (network : Network) (free : IsFreeNetwork network) (limits : Limits) wh
   ended net zero s t is = absurd cc
   ended net (suc n) s t is = ended_by net n s (step net s).0 t refl (λ y h. ended net n (step net s).1 y h) is
 
+  -- a run that begins with events comes to a state with them
+  record Prefix (net : Net) (o : State) (es : List Event) : Type 0 where
+    state : State
+    runs : Runs net o es state
+
+  prefix_of : (net : Net) (o t : State) (es rest : List Event) → Runs net o (es ++ rest) t → Prefix net o es
+  prefix_of net o t [] rest runs = record { state = o; runs = refl }
+  prefix_of net o t (e ∷ es) rest runs = let more = prefix_of net (step net o).1 t es rest runs.1 in record { state = more.state; runs = (runs.0, more.runs) }
+
+  begins : (es : List Event) (k : KeptState) → IsKept network limits es k → BeginsRun network limits es
+  begins es k follow =
+      let reached = kept_reached es k follow in
+      let is = reached.1 in
+      let net = net_of is.draw network limits in
+      let rest = has_trajectory net reached.0 in
+      record { draw = is.draw; words = is.words; rest = rest.0; is = rest_is_trajectory net (opening_state net) reached.0 es rest.0 is.runs rest.1 }
+
+  begun : (es : List Event) → BeginsRun network limits es → (k : KeptState) × IsKept network limits es k
+  begun es of =
+      let net = net_of of.draw network limits in
+      let o = opening_state net in
+      let end = ended net (suc (net.limit - o.count)) o (followed_by es of.rest) of.is in
+      let first = prefix_of net o end.last es of.rest.events end.runs in
+      let came = kept_of es first.state (record { draw = of.draw; words = of.words; runs = first.runs }) in
+      (came.after, came.follow)
+
   legal_is : (t : Trajectory) → IsLegal network limits t → IsTrajectory network limits t
   legal_is t legal =
       let ready = follow_ready blank legal.kept t.events (opening_ready network limits) legal.events in
@@ -252,6 +278,9 @@ legal_events_are_those_of_runs network free limits es = (
   (λ kept. kept_reached network free limits es kept.0 kept.1),
   (λ is. (let came = kept_of network free limits es is.0 is.1 in (came.after, came.follow))),
 )
+
+pub legal_events_begin_runs : (network : Network) → IsFreeNetwork network → LegalEventsBeginRuns network
+legal_events_begin_runs network free limits es = ((λ kept. begins network free limits es kept.0 kept.1), begun network free limits es)
 
 pub legal_runs_are_those_of_draws : (network : Network) → IsFreeNetwork network → LegalRunsAreThoseOfDraws network
 legal_runs_are_those_of_draws network free limits t = (legal_is network free limits t, is_legal network free limits t)

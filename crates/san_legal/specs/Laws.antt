@@ -3,7 +3,7 @@ use Rattle.std.specs.Prelude.{ℕ, ◌≡◌, ◌↔◌, List, Some}
 use Rattle.san_law.specs.Network.{Limits, Network, net_of}
 use Rattle.san_law.specs.State.{State, opening_state}
 use Rattle.san_law.specs.Step.{Event}
-use Rattle.san_law.specs.Trajectory.{Runs, Trajectory, trajectory}
+use Rattle.san_law.specs.Trajectory.{Runs, Trajectory, followed_by, trajectory}
 use Rattle.san_legal.specs.Draws.{AreDraws}
 use Rattle.san_legal.specs.Kept.{IsWithin, KeptState}
 use Rattle.san_legal.specs.KeptSteps.{kept_opening, undrawn}
@@ -35,6 +35,18 @@ KeptStatesAreThoseOfRuns network = (limits : Limits) (es : List Event) (k : Kept
 abbrev pub LegalEventsAreThoseOfRuns : Network → Type 0
 LegalEventsAreThoseOfRuns network = (limits : Limits) (es : List Event)
     → ((k : KeptState) × IsKept network limits es k) ↔ ((s : State) × Reaches network limits es s)
+
+-- with some draws a whole run begins with these events
+pub record BeginsRun (network : Network) (limits : Limits) (es : List Event) : Type 0 where
+  pub draw : ℕ → ℕ → ℕ
+  pub words : AreDraws draw
+  pub rest : Trajectory
+  pub is : trajectory (net_of draw network limits) (opening_state (net_of draw network limits)) ≡ Some (followed_by es rest)
+
+-- events may come exactly where some whole run begins with them: each run goes on to an ending
+abbrev pub LegalEventsBeginRuns : Network → Type 0
+LegalEventsBeginRuns network = (limits : Limits) (es : List Event)
+    → ((k : KeptState) × IsKept network limits es k) ↔ BeginsRun network limits es
 
 -- what is kept after events, and with it whether an ending may come
 pub record IsLegal (network : Network) (limits : Limits) (t : Trajectory) : Type 0 where
