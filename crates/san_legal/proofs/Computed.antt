@@ -24,7 +24,7 @@ use Rattle.san_legal.specs.Free.{IsFree, IsFreeNetwork}
 use Rattle.san_legal.specs.Kept.{HasOne, HaveSome, IsLater, KeptState}
 use Rattle.san_legal.specs.KeptSteps.{kept_completed, kept_fired, kept_opening, kept_renewed}
 use Rattle.san_legal.specs.Laws.{IsKept}
-use Rattle.san_legal.specs.Legal.{IsInstant, IsRenewed, IsTimed, MayCome, MayFire, due_in}
+use Rattle.san_legal.specs.Legal.{InstantMayCome, RenewsTo, TimedMayCome, MayCome, MayFire, due_in}
 
 -- the rows that the renewal at the opening gives where all draws are 0
 abbrev opening_rows : List Row
@@ -40,7 +40,7 @@ pub completion_computed : kept_completed race (kept_fired at_opening (both_run �
 unfolding scatter
 completion_computed = refl
 
-opening_renewed : IsRenewed racing ten_ticks at_opening opening_rows
+opening_renewed : RenewsTo racing ten_ticks at_opening opening_rows
 unfolding next_instant
 opening_renewed = record { next = refl; renewed = refl }
 
@@ -65,7 +65,7 @@ steady_fires = record {
 abbrev taken : Effected
 taken = record { case = 0; values = put ((1, 0) ∷ []) (1 ∷ 1 ∷ []); sets = λ p. is_in (index_of p (places_of ((1, 0) ∷ []))) }
 
-pub steady_comes : IsTimed racing ten_ticks at_opening steady_first after_steady
+pub steady_comes : TimedMayCome racing ten_ticks at_opening steady_first after_steady
 unfolding scatter
 steady_comes = record {
   rows = opening_rows;
@@ -82,7 +82,7 @@ steady_may_be_first = (after_steady, inr steady_comes, refl)
 
 -- ---- the slow one at 4 can't come first
 
-not_instant : (k : KeptState) → IsInstant racing ten_ticks at_opening slow_late k → ⊥
+not_instant : (k : KeptState) → InstantMayCome racing ten_ticks at_opening slow_late k → ⊥
 not_instant k is = stable (sym opening_renewed.next ∙ is.next)
   where
     stable : (let w : Next = Stable in w) ≡ Completes 0 0 → ⊥
@@ -98,7 +98,7 @@ not_later has = by_order (three has.1.ticks has.1.given.2) has.1.is has.1.later
     by_order t d (inl h) = absurd (omega (arith, t, d, h))
     by_order t d (inr h) = absurd (omega (arith, t, d, h.0))
 
-not_timed : (k : KeptState) → IsTimed racing ten_ticks at_opening slow_late k → ⊥
+not_timed : (k : KeptState) → TimedMayCome racing ten_ticks at_opening slow_late k → ⊥
 not_timed k is =
     let rows : is.rows ≡ opening_rows = same_all is.rows opening_rows (sym is.fires.renewed.renewed ∙ opening_renewed.renewed) in
     not_later (subst (λ (rs : List Row). HaveSome racing (due_in slow_late) (kept_fired at_opening (kept_renewed race at_opening rs) (due_in slow_late)).rows) rows is.fires.others 0 1)

@@ -17,9 +17,9 @@ use Rattle.san_legal.specs.Draws.{AreDraws}
 use Rattle.san_legal.specs.Endings.{HasAfter, IsStopped, MayEnd, MayWait, TrapsInstant, TrapsNow, TrapsRenewed}
 use Rattle.san_legal.specs.Free.{IsFreeNetwork}
 use Rattle.san_legal.specs.FreeRuns.{IsFreeStep}
-use Rattle.san_legal.specs.Kept.{AreRowsOf, HaveSome, IsOne, IsWithin, Kept, KeptRow, KeptState, bound_of, kept_at, timer_of, with_rows}
+use Rattle.san_legal.specs.Kept.{RowsAgree, HaveSome, IsOne, StateAgrees, KeptTimer, KeptRow, KeptState, bound_of, kept_at, timer_of, with_rows}
 use Rattle.san_legal.specs.KeptSteps.{kept_completed, kept_renewed, kept_without, state_in, undrawn}
-use Rattle.san_legal.specs.Legal.{IsInstant, IsRenewed, IsTimed, MayCome, MayFire, due_in, event_by, fired_at}
+use Rattle.san_legal.specs.Legal.{InstantMayCome, RenewsTo, TimedMayCome, MayCome, MayFire, due_in, event_by, fired_at}
 use Rattle.san_legal.proofs.Chosen.{Chosen, NotYet, chosen, done_of, not_yet, some_rows}
 use Rattle.san_legal.proofs.Fires.{PutBack, kept_left, kept_row_there, put}
 use Rattle.san_legal.proofs.Firing.{kept_there}
@@ -37,7 +37,7 @@ pub record IsReady (network : Network) (k : KeptState) : Type 0 where
 -- a state that agrees, and a step from it
 pub record Found (network : Network) (limits : Limits) (k : KeptState) (x : Stepped × State) : Type 0 where
   pub state : State
-  pub within : IsWithin network k state
+  pub within : StateAgrees network k state
   pub step : IsFreeStep network limits state x
 
 -- and one that comes to an ending
@@ -85,10 +85,10 @@ module _ (network : Network) (limits : Limits) where
   -- ---- instantaneous completions
 
   module _ (k : KeptState) (ready : IsReady network k) where
-    any_rows : (rows : List Row) × AreRowsOf network (bound_of k) k.rows rows
+    any_rows : (rows : List Row) × RowsAgree network (bound_of k) k.rows rows
     any_rows = some_rows network (bound_of k) k.rows ready.some
 
-    within_of : (rows : List Row) → AreRowsOf network (bound_of k) k.rows rows → IsWithin network k (with_rows k rows)
+    within_of : (rows : List Row) → RowsAgree network (bound_of k) k.rows rows → StateAgrees network k (with_rows k rows)
     within_of rows are = record { same = refl; rows = are }
 
     -- the step at what stands next, with one number for all draws
@@ -101,11 +101,11 @@ module _ (network : Network) (limits : Limits) where
         let under : i < length (part_at network j).activities = subst (NextIsUnder still.acts) next (next_under still (state_in k) (λ m values. first_under (part_at network m) values)) in
         case_row_there k.rows j i (omega (arith, under, (ready.sized j).cases))
 
-    instant_found : (e : Event) (after : KeptState) (t : State) → IsInstant network limits k e after → IsWithin network after t → Found network limits k (Happened e, t)
+    instant_found : (e : Event) (after : KeptState) (t : State) → InstantMayCome network limits k e after → StateAgrees network after t → Found network limits k (Happened e, t)
     instant_found e after t is within =
         let x = is.done in
         let to : KeptState = kept_completed still k (k.burst + 1) e.leaf e.act is.effect.values in
-        let agrees : IsWithin network to t = subst (λ (y : KeptState). IsWithin network y t) is.left within in
+        let agrees : StateAgrees network to t = subst (λ (y : KeptState). StateAgrees network y t) is.left within in
         let before : NotYet network (bound_of k) k.rows e.leaf e.act t.rows = not_yet network (bound_of k) k.rows e.leaf e.act (act_inside e.leaf e.act is.next) t.rows agrees.rows in
         let net = net_of (λ s n. x.draw) network limits in
         let s : State = with_rows k before.rows in
@@ -199,7 +199,7 @@ module _ (network : Network) (limits : Limits) where
       -- ---- renewals
 
       -- rows that agree after a renewal come from a state that agrees, with draws whose case draws are all one number
-      module _ (fs : List Row) (renewed : IsRenewed network limits k fs) (rows : List Row) (are : AreRowsOf network (bound_of k) (kept_renewed still k fs) rows) (u : ℕ) (word : u < 2 ^ 64) where
+      module _ (fs : List Row) (renewed : RenewsTo network limits k fs) (rows : List Row) (are : RowsAgree network (bound_of k) (kept_renewed still k fs) rows) (u : ℕ) (word : u < 2 ^ 64) where
         old : RowsBefore network limits k delays 0 k.rows rows
         old = rows_before network limits k delays fs rows renewed.renewed ready.sized ready.some are
 
@@ -222,7 +222,7 @@ module _ (network : Network) (limits : Limits) where
         abbrev start : State
         start = with_rows k old.rows
 
-        start_within : IsWithin network k start
+        start_within : StateAgrees network k start
         start_within = within_of old.rows (before_rows network limits k delays rows old)
 
         rest_is : step (net_of draw network limits) start ≡ at_due (net_of draw network limits) start rows (least_from 0 (map least_timer rows))
@@ -240,7 +240,7 @@ module _ (network : Network) (limits : Limits) where
       Waits None = Unit {0}
       Waits (Some t) = limits.horizon < t.due
 
-      waits_by : (j i : ℕ) (x : Option Kept) → HasAfter limits.horizon (bound_of k) j i (activity_of (part_at network j) i).kind x → (t : Option Timer) × IsOne (bound_of k) j i (activity_of (part_at network j) i).kind x t × Waits t
+      waits_by : (j i : ℕ) (x : Option KeptTimer) → HasAfter limits.horizon (bound_of k) j i (activity_of (part_at network j) i).kind x → (t : Option Timer) × IsOne (bound_of k) j i (activity_of (part_at network j) i).kind x t × Waits t
       waits_by j i None h = (None, tt, tt)
       waits_by j i (Some x) h = (Some (record { due = h.0; held = x.held }), (refl, h.1), h.2)
 
@@ -274,7 +274,7 @@ module _ (network : Network) (limits : Limits) where
 
       -- ---- timers that fire
 
-      module _ (fs : List Row) (d : Due) (may : MayFire network limits k fs d) (rows : List Row) (are : AreRowsOf network d (kept_left network (bound_of k) d (kept_renewed still k fs)) rows) (u : ℕ) (word : u < 2 ^ 64) where
+      module _ (fs : List Row) (d : Due) (may : MayFire network limits k fs d) (rows : List Row) (are : RowsAgree network d (kept_left network (bound_of k) d (kept_renewed still k fs)) rows) (u : ℕ) (word : u < 2 ^ 64) where
         abbrev now : KeptState
         now = fired_at network limits k fs d
 
@@ -324,7 +324,7 @@ module _ (network : Network) (limits : Limits) where
             ∙ ap (λ (y : State). (let p : Stepped × State = (Happened (event_by network d.time d.leaf d.act effect), y) in p)) left))
 
       -- rows that are left when a timer fired
-      lefts_of : (fs : List Row) (d : Due) → MayFire network limits k fs d → (rows : List Row) × AreRowsOf network d (kept_left network (bound_of k) d (kept_renewed still k fs)) rows
+      lefts_of : (fs : List Row) (d : Due) → MayFire network limits k fs d → (rows : List Row) × RowsAgree network d (kept_left network (bound_of k) d (kept_renewed still k fs)) rows
       lefts_of fs d may = some_rows network d (kept_left network (bound_of k) d (kept_renewed still k fs)) may.others
 
       timed_inside : (fs : List Row) (d : Due) → MayFire network limits k fs d → d.leaf < length (kept_left network (bound_of k) d (kept_renewed still k fs))
@@ -333,12 +333,12 @@ module _ (network : Network) (limits : Limits) where
           let here = kept_row_there xs d.leaf d.act (kept_there (kept_at xs d.leaf).timers d.act may.timer may.runs) in
           omega (arith, here, length-set xs d.leaf (kept_without (kept_at xs d.leaf) d.act))
 
-      timed_found : (e : Event) (after : KeptState) (t : State) → IsTimed network limits k e after → IsWithin network after t → Found network limits k (Happened e, t)
+      timed_found : (e : Event) (after : KeptState) (t : State) → TimedMayCome network limits k e after → StateAgrees network after t → Found network limits k (Happened e, t)
       timed_found e after t is within =
           let d = due_in e in
           let now : KeptState = fired_at network limits k is.rows d in
           let to : KeptState = kept_completed still now 0 e.leaf e.act is.effect.values in
-          let agrees : IsWithin network to t = subst (λ (y : KeptState). IsWithin network y t) is.left within in
+          let agrees : StateAgrees network to t = subst (λ (y : KeptState). StateAgrees network y t) is.left within in
           let before : NotYet network (bound_of now) now.rows e.leaf e.act t.rows = not_yet network (bound_of now) now.rows e.leaf e.act (timed_inside is.rows d is.fires) t.rows agrees.rows in
           let left : with_rows to (done_of network (bound_of now) now.rows e.leaf e.act before.rows) ≡ t = ap (with_rows to) before.left ∙ sym agrees.same in
           let found = happened_found is.rows d is.fires before.rows before.are is.done.draw is.done.word is.effect t is.limit is.done.is left in
@@ -346,7 +346,7 @@ module _ (network : Network) (limits : Limits) where
 
       -- ---- all that may come
 
-      pub event_found : (e : Event) (after : KeptState) (t : State) → MayCome network limits k e after → IsWithin network after t → Found network limits k (Happened e, t)
+      pub event_found : (e : Event) (after : KeptState) (t : State) → MayCome network limits k e after → StateAgrees network after t → Found network limits k (Happened e, t)
       event_found e after t (inl is) within = instant_found e after t is within
       event_found e after t (inr is) within = timed_found e after t is within
 

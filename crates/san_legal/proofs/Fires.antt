@@ -8,7 +8,7 @@ use Rattle.san_law.specs.First.{BeforeAll, due_of, timer_at}
 use Rattle.san_law.specs.Net.{Row, Timer, least_timer, no_row, without_timer}
 use Rattle.san_law.specs.Network.{Network, part_at}
 use Rattle.san_law.specs.Renewal.{Due, least_from}
-use Rattle.san_legal.specs.Kept.{AreRowsOf, IsLater, IsOne, IsRowOf, Kept, KeptRow, MayBeDue, kept_at, no_kept, timer_of}
+use Rattle.san_legal.specs.Kept.{RowsAgree, IsLater, IsOne, RowAgrees, KeptTimer, KeptRow, MayBeDue, kept_at, no_kept, timer_of}
 use Rattle.san_legal.specs.KeptSteps.{kept_without}
 use Rattle.san_legal.proofs.Firing.{kept_there, put_back, row_back, row_lowered, row_raised, row_there, row_without, timer_there}
 use Rattle.san_legal.proofs.RowLemmas.{row_at}
@@ -50,18 +50,18 @@ module _ (network : Network) (b d : Due) (xs : List KeptRow) where
   -- ---- forward
 
   pub record Fired (rows : List Row) : Type 0 where
-    pub timer : Kept
+    pub timer : KeptTimer
     pub runs : timer_of (kept_at xs d.leaf) d.act ≡ Some timer
     pub due : MayBeDue b d.leaf d.act (kind_at d.leaf d.act) timer d.time
-    pub left : AreRowsOf network d kept_left (left_of rows)
+    pub left : RowsAgree network d kept_left (left_of rows)
 
-  found : (x : Option Kept) (t : Option Timer) → timer_of (kept_at xs d.leaf) d.act ≡ x → due_of t ≡ Some d.time → IsOne b d.leaf d.act (kind_at d.leaf d.act) x t
-      → (y : Kept) × (timer_of (kept_at xs d.leaf) d.act ≡ Some y) × MayBeDue b d.leaf d.act (kind_at d.leaf d.act) y d.time
+  found : (x : Option KeptTimer) (t : Option Timer) → timer_of (kept_at xs d.leaf) d.act ≡ x → due_of t ≡ Some d.time → IsOne b d.leaf d.act (kind_at d.leaf d.act) x t
+      → (y : KeptTimer) × (timer_of (kept_at xs d.leaf) d.act ≡ Some y) × MayBeDue b d.leaf d.act (kind_at d.leaf d.act) y d.time
   found x None is due one = absurd cc
   found None (Some t) is due one = absurd one
   found (Some y) (Some t) is due one = (y, is, subst (MayBeDue b d.leaf d.act (kind_at d.leaf d.act) y) (same_number t.due d.time due) one.1)
 
-  module _ (rows : List Row) (are : AreRowsOf network b xs rows) (is : least_from 0 (map least_timer rows) ≡ Some d) where
+  module _ (rows : List Row) (are : RowsAgree network b xs rows) (is : least_from 0 (map least_timer rows) ≡ Some d) where
     before : (j i : ℕ) → BeforeAll d j i (timer_at rows j i)
     before = (is_before_all rows d is).1
 
@@ -72,20 +72,20 @@ module _ (network : Network) (b d : Due) (xs : List KeptRow) where
         by_timer None e f = absurd cc
         by_timer (Some t) e f = row_there rows d.leaf d.act (timer_there (row_at rows d.leaf).timers d.act t e)
 
-    left_each : (j : ℕ) → IsRowOf d j (part_at network j) (kept_at kept_left j) (row_at (left_of rows) j)
+    left_each : (j : ℕ) → RowAgrees d j (part_at network j) (kept_at kept_left j) (row_at (left_of rows) j)
     left_each j = by_leaf (cases_eq j d.leaf)
       where
-        here : IsRowOf d d.leaf (part_at network d.leaf) (kept_at kept_left d.leaf) (row_at (left_of rows) d.leaf)
+        here : RowAgrees d d.leaf (part_at network d.leaf) (kept_at kept_left d.leaf) (row_at (left_of rows) d.leaf)
         here =
-            subst (λ (x : KeptRow). IsRowOf d d.leaf (part_at network d.leaf) x (row_at (left_of rows) d.leaf)) (sym (get_or-set_same xs d.leaf (kept_without (kept_at xs d.leaf) d.act) no_kept (omega (arith, inside, are.long))))
-            (subst (λ (r : Row). IsRowOf d d.leaf (part_at network d.leaf) (kept_without (kept_at xs d.leaf) d.act) r) (sym (get_or-set_same rows d.leaf (without_timer (row_at rows d.leaf) d.act) no_row inside))
+            subst (λ (x : KeptRow). RowAgrees d d.leaf (part_at network d.leaf) x (row_at (left_of rows) d.leaf)) (sym (get_or-set_same xs d.leaf (kept_without (kept_at xs d.leaf) d.act) no_kept (omega (arith, inside, are.long))))
+            (subst (λ (r : Row). RowAgrees d d.leaf (part_at network d.leaf) (kept_without (kept_at xs d.leaf) d.act) r) (sym (get_or-set_same rows d.leaf (without_timer (row_at rows d.leaf) d.act) no_row inside))
             (row_without b d d.leaf (part_at network d.leaf) (kept_at xs d.leaf) (row_at rows d.leaf) (before d.leaf) (are.each d.leaf)))
 
-        by_leaf : (j ≡ d.leaf) ⊎ (j ≡ d.leaf → ⊥) → IsRowOf d j (part_at network j) (kept_at kept_left j) (row_at (left_of rows) j)
-        by_leaf (inl e) = subst (λ (l : ℕ). IsRowOf d l (part_at network l) (kept_at kept_left l) (row_at (left_of rows) l)) (sym e) here
+        by_leaf : (j ≡ d.leaf) ⊎ (j ≡ d.leaf → ⊥) → RowAgrees d j (part_at network j) (kept_at kept_left j) (row_at (left_of rows) j)
+        by_leaf (inl e) = subst (λ (l : ℕ). RowAgrees d l (part_at network l) (kept_at kept_left l) (row_at (left_of rows) l)) (sym e) here
         by_leaf (inr n) =
-            subst (λ (x : KeptRow). IsRowOf d j (part_at network j) x (row_at (left_of rows) j)) (sym (get_or-set_other xs d.leaf j (kept_without (kept_at xs d.leaf) d.act) no_kept n))
-            (subst (λ (r : Row). IsRowOf d j (part_at network j) (kept_at xs j) r) (sym (get_or-set_other rows d.leaf j (without_timer (row_at rows d.leaf) d.act) no_row n))
+            subst (λ (x : KeptRow). RowAgrees d j (part_at network j) x (row_at (left_of rows) j)) (sym (get_or-set_other xs d.leaf j (kept_without (kept_at xs d.leaf) d.act) no_kept n))
+            (subst (λ (r : Row). RowAgrees d j (part_at network j) (kept_at xs j) r) (sym (get_or-set_other rows d.leaf j (without_timer (row_at rows d.leaf) d.act) no_row n))
             (row_raised b d j (part_at network j) (kept_at xs j) (row_at rows j) n (before j) (are.each j)))
 
     pub fires : Fired rows
@@ -102,11 +102,11 @@ module _ (network : Network) (b d : Due) (xs : List KeptRow) where
 
   pub record PutBack (lefts : List Row) : Type 0 where
     pub rows : List Row
-    pub are : AreRowsOf network b xs rows
+    pub are : RowsAgree network b xs rows
     pub first : least_from 0 (map least_timer rows) ≡ Some d
     pub left : left_of rows ≡ lefts
 
-  module _ (y : Kept) (runs : timer_of (kept_at xs d.leaf) d.act ≡ Some y) (may : MayBeDue b d.leaf d.act (kind_at d.leaf d.act) y d.time) (lefts : List Row) (are : AreRowsOf network d kept_left lefts) where
+  module _ (y : KeptTimer) (runs : timer_of (kept_at xs d.leaf) d.act ≡ Some y) (may : MayBeDue b d.leaf d.act (kind_at d.leaf d.act) y d.time) (lefts : List Row) (are : RowsAgree network d kept_left lefts) where
     abbrev r2 : Row
     r2 = row_at lefts d.leaf
 
@@ -125,26 +125,26 @@ module _ (network : Network) (b d : Due) (xs : List KeptRow) where
     same_row : row_at rows d.leaf ≡ r1
     same_row = get_or-set_same lefts d.leaf r1 no_row lefts_inside
 
-    without_here : IsRowOf d d.leaf (part_at network d.leaf) (kept_without (kept_at xs d.leaf) d.act) r2
-    without_here = subst (λ (x : KeptRow). IsRowOf d d.leaf (part_at network d.leaf) x r2) (get_or-set_same xs d.leaf (kept_without (kept_at xs d.leaf) d.act) no_kept kept_inside) (are.each d.leaf)
+    without_here : RowAgrees d d.leaf (part_at network d.leaf) (kept_without (kept_at xs d.leaf) d.act) r2
+    without_here = subst (λ (x : KeptRow). RowAgrees d d.leaf (part_at network d.leaf) x r2) (get_or-set_same xs d.leaf (kept_without (kept_at xs d.leaf) d.act) no_kept kept_inside) (are.each d.leaf)
 
-    each : (j : ℕ) → IsRowOf b j (part_at network j) (kept_at xs j) (row_at rows j)
+    each : (j : ℕ) → RowAgrees b j (part_at network j) (kept_at xs j) (row_at rows j)
     each j = by_leaf (cases_eq j d.leaf)
       where
-        here : IsRowOf b d.leaf (part_at network d.leaf) (kept_at xs d.leaf) (row_at rows d.leaf)
+        here : RowAgrees b d.leaf (part_at network d.leaf) (kept_at xs d.leaf) (row_at rows d.leaf)
         here =
-            subst (λ (r : Row). IsRowOf b d.leaf (part_at network d.leaf) (kept_at xs d.leaf) r) (sym same_row)
+            subst (λ (r : Row). RowAgrees b d.leaf (part_at network d.leaf) (kept_at xs d.leaf) r) (sym same_row)
             (row_back b d d.leaf (part_at network d.leaf) (kept_at xs d.leaf) y r2 runs may may.later without_here)
 
-        by_leaf : (j ≡ d.leaf) ⊎ (j ≡ d.leaf → ⊥) → IsRowOf b j (part_at network j) (kept_at xs j) (row_at rows j)
-        by_leaf (inl e) = subst (λ (l : ℕ). IsRowOf b l (part_at network l) (kept_at xs l) (row_at rows l)) (sym e) here
+        by_leaf : (j ≡ d.leaf) ⊎ (j ≡ d.leaf → ⊥) → RowAgrees b j (part_at network j) (kept_at xs j) (row_at rows j)
+        by_leaf (inl e) = subst (λ (l : ℕ). RowAgrees b l (part_at network l) (kept_at xs l) (row_at rows l)) (sym e) here
         by_leaf (inr n) =
-            subst (λ (r : Row). IsRowOf b j (part_at network j) (kept_at xs j) r) (sym (get_or-set_other lefts d.leaf j r1 no_row n))
+            subst (λ (r : Row). RowAgrees b j (part_at network j) (kept_at xs j) r) (sym (get_or-set_other lefts d.leaf j r1 no_row n))
             (row_lowered b d j (part_at network j) (kept_at xs j) (row_at lefts j) may.later
-            (subst (λ (x : KeptRow). IsRowOf d j (part_at network j) x (row_at lefts j)) (get_or-set_other xs d.leaf j (kept_without (kept_at xs d.leaf) d.act) no_kept n) (are.each j)))
+            (subst (λ (x : KeptRow). RowAgrees d j (part_at network j) x (row_at lefts j)) (get_or-set_other xs d.leaf j (kept_without (kept_at xs d.leaf) d.act) no_kept n) (are.each j)))
 
     -- the timers that are left are later
-    later_by : (j i : ℕ) (x : Option Kept) (t : Timer) → IsOne d j i (kind_at j i) x (Some t) → IsLater d j i t.due
+    later_by : (j i : ℕ) (x : Option KeptTimer) (t : Timer) → IsOne d j i (kind_at j i) x (Some t) → IsLater d j i t.due
     later_by j i None t one = absurd one
     later_by j i (Some x) t one = one.1.later
 
@@ -210,10 +210,10 @@ module _ (network : Network) (b d : Due) (xs : List KeptRow) where
         by_one None one = refl
         by_one (Some t) one = absurd one
 
-        by_kept : (x : Option Kept) → timer_of (kept_without (kept_at xs d.leaf) d.act) d.act ≡ x → t ≡ None
+        by_kept : (x : Option KeptTimer) → timer_of (kept_without (kept_at xs d.leaf) d.act) d.act ≡ x → t ≡ None
         by_kept x is =
             by_one t (subst (λ (o : Option Timer). IsOne d d.leaf d.act (kind_at d.leaf d.act) None o) e
-            (subst (λ (z : Option Kept). IsOne d d.leaf d.act (kind_at d.leaf d.act) z (slice_index_or r2.timers d.act None)) none (without_here.timers d.act)))
+            (subst (λ (z : Option KeptTimer). IsOne d d.leaf d.act (kind_at d.leaf d.act) z (slice_index_or r2.timers d.act None)) none (without_here.timers d.act)))
 
     row_left : without_timer r1 d.act ≡ r2
     unfolding without_timer

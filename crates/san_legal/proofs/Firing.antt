@@ -6,7 +6,7 @@ use Rattle.san_law.specs.Activity.{ActKind, Part, activity_of}
 use Rattle.san_law.specs.First.{BeforeAll}
 use Rattle.san_law.specs.Net.{Row, Timer, without_timer}
 use Rattle.san_law.specs.Renewal.{Due}
-use Rattle.san_legal.specs.Kept.{IsLater, IsOne, IsRowOf, Kept, KeptRow, MayBeDue, timer_of}
+use Rattle.san_legal.specs.Kept.{IsLater, IsOne, RowAgrees, KeptTimer, KeptRow, MayBeDue, timer_of}
 use Rattle.san_legal.specs.KeptSteps.{kept_without}
 use Rattle.san_legal.proofs.RowLemmas.{row_at}
 
@@ -17,7 +17,7 @@ timer_there [] i t e = absurd cc
 timer_there (x ∷ ts) zero t e = omega arith
 timer_there (x ∷ ts) (suc i) t e = let more = timer_there ts i t e in omega (arith, more)
 
-pub kept_there : (xs : List (Option Kept)) (i : ℕ) (x : Kept) → slice_index_or xs i None ≡ Some x → i < length xs
+pub kept_there : (xs : List (Option KeptTimer)) (i : ℕ) (x : KeptTimer) → slice_index_or xs i None ≡ Some x → i < length xs
 kept_there [] i x e = absurd cc
 kept_there (y ∷ xs) zero x e = omega arith
 kept_there (y ∷ xs) (suc i) x e = let more = kept_there xs i x e in omega (arith, more)
@@ -55,14 +55,14 @@ later_trans b d j i due (inr (e, inr (m, h))) (inr (f, inr (l, g))) = inr (e ∙
 
 module _ (b d : Due) (j i : ℕ) (kind : ActKind) where
   -- under a later bound
-  raised : (x : Option Kept) (t : Option Timer) → ((j ≡ d.leaf) × (i ≡ d.act) → ⊥) → BeforeAll d j i t → IsOne b j i kind x t → IsOne d j i kind x t
+  raised : (x : Option KeptTimer) (t : Option Timer) → ((j ≡ d.leaf) × (i ≡ d.act) → ⊥) → BeforeAll d j i t → IsOne b j i kind x t → IsOne d j i kind x t
   raised None None other h one = tt
   raised None (Some t) other h one = absurd one
   raised (Some x) None other h one = absurd one
   raised (Some x) (Some t) other h one = (one.0, record { ticks = one.1.ticks; given = one.1.given; is = one.1.is; later = later_than d j i t.due other h })
 
   -- under an earlier one
-  lowered : (x : Option Kept) (t : Option Timer) → IsLater b d.leaf d.act d.time → IsOne d j i kind x t → IsOne b j i kind x t
+  lowered : (x : Option KeptTimer) (t : Option Timer) → IsLater b d.leaf d.act d.time → IsOne d j i kind x t → IsOne b j i kind x t
   lowered None None h one = tt
   lowered None (Some t) h one = absurd one
   lowered (Some x) None h one = absurd one
@@ -72,7 +72,7 @@ module _ (b d : Due) (j i : ℕ) (kind : ActKind) where
 
 module _ (b d : Due) (j : ℕ) (part : Part) where
   -- of another leaf
-  pub row_raised : (x : KeptRow) (r : Row) → (j ≡ d.leaf → ⊥) → ((i : ℕ) → BeforeAll d j i (slice_index_or r.timers i None)) → IsRowOf b j part x r → IsRowOf d j part x r
+  pub row_raised : (x : KeptRow) (r : Row) → (j ≡ d.leaf → ⊥) → ((i : ℕ) → BeforeAll d j i (slice_index_or r.timers i None)) → RowAgrees b j part x r → RowAgrees d j part x r
   row_raised x r other h is = record {
     long = is.long;
     timers = λ i. raised b d j i (activity_of part i).kind (timer_of x i) (slice_index_or r.timers i None) (λ same. other same.0) (h i) (is.timers i);
@@ -80,7 +80,7 @@ module _ (b d : Due) (j : ℕ) (part : Part) where
     cases = is.cases;
   }
 
-  pub row_lowered : (x : KeptRow) (r : Row) → IsLater b d.leaf d.act d.time → IsRowOf d j part x r → IsRowOf b j part x r
+  pub row_lowered : (x : KeptRow) (r : Row) → IsLater b d.leaf d.act d.time → RowAgrees d j part x r → RowAgrees b j part x r
   row_lowered x r h is = record {
     long = is.long;
     timers = λ i. lowered b d j i (activity_of part i).kind (timer_of x i) (slice_index_or r.timers i None) h (is.timers i);
@@ -89,7 +89,7 @@ module _ (b d : Due) (j : ℕ) (part : Part) where
   }
 
   -- without the timer
-  pub row_without : (x : KeptRow) (r : Row) → ((i : ℕ) → BeforeAll d j i (slice_index_or r.timers i None)) → IsRowOf b j part x r → IsRowOf d j part (kept_without x d.act) (without_timer r d.act)
+  pub row_without : (x : KeptRow) (r : Row) → ((i : ℕ) → BeforeAll d j i (slice_index_or r.timers i None)) → RowAgrees b j part x r → RowAgrees d j part (kept_without x d.act) (without_timer r d.act)
   unfolding without_timer
   row_without x r h is = record {
     long = length-set r.timers d.act None ∙ (is.long ∙ sym (length-set x.timers d.act None));
@@ -105,18 +105,18 @@ module _ (b d : Due) (j : ℕ) (part : Part) where
           by_act (inl e) =
               let no_x : slice_index_or (slice_set x.timers d.act None) i None ≡ None = ap (λ (l : ℕ). slice_index_or (slice_set x.timers d.act None) l None) e ∙ none_left x.timers d.act in
               let no_r : slice_index_or (slice_set r.timers d.act None) i None ≡ None = ap (λ (l : ℕ). slice_index_or (slice_set r.timers d.act None) l None) e ∙ none_left r.timers d.act in
-              subst (λ (y : Option Kept). IsOne d j i (activity_of part i).kind y (slice_index_or (slice_set r.timers d.act None) i None)) (sym no_x)
+              subst (λ (y : Option KeptTimer). IsOne d j i (activity_of part i).kind y (slice_index_or (slice_set r.timers d.act None) i None)) (sym no_x)
               (subst (λ (t : Option Timer). IsOne d j i (activity_of part i).kind None t) (sym no_r) tt)
           by_act (inr n) =
-              subst (λ (y : Option Kept). IsOne d j i (activity_of part i).kind y (slice_index_or (slice_set r.timers d.act None) i None)) (sym (get_or-set_other x.timers d.act i None None n))
+              subst (λ (y : Option KeptTimer). IsOne d j i (activity_of part i).kind y (slice_index_or (slice_set r.timers d.act None) i None)) (sym (get_or-set_other x.timers d.act i None None n))
               (subst (λ (t : Option Timer). IsOne d j i (activity_of part i).kind (timer_of x i) t) (sym (get_or-set_other r.timers d.act i None None n))
               (raised b d j i (activity_of part i).kind (timer_of x i) (slice_index_or r.timers i None) (λ same. n same.1) (h i) (is.timers i)))
 
   -- the timer put back
-  abbrev pub put_back : Kept → Row → Row
+  abbrev pub put_back : KeptTimer → Row → Row
   put_back x r = record { timers = slice_set r.timers d.act (Some (record { due = d.time; held = x.held })); delays = r.delays; cases = r.cases }
 
-  pub row_back : (x : KeptRow) (y : Kept) (r : Row) → timer_of x d.act ≡ Some y → MayBeDue b j d.act (activity_of part d.act).kind y d.time → IsLater b d.leaf d.act d.time → IsRowOf d j part (kept_without x d.act) r → IsRowOf b j part x (put_back y r)
+  pub row_back : (x : KeptRow) (y : KeptTimer) (r : Row) → timer_of x d.act ≡ Some y → MayBeDue b j d.act (activity_of part d.act).kind y d.time → IsLater b d.leaf d.act d.time → RowAgrees d j part (kept_without x d.act) r → RowAgrees b j part x (put_back y r)
   row_back x y r runs may later is = record {
     long = length-set r.timers d.act (Some (record { due = d.time; held = y.held })) ∙ (is.long ∙ length-set x.timers d.act None);
     timers = each;
@@ -136,9 +136,9 @@ module _ (b d : Due) (j : ℕ) (part : Part) where
           by_act : (i ≡ d.act) ⊎ (i ≡ d.act → ⊥) → IsOne b j i (activity_of part i).kind (timer_of x i) (slice_index_or (slice_set r.timers d.act (Some (record { due = d.time; held = y.held }))) i None)
           by_act (inl e) =
               subst (λ (l : ℕ). IsOne b j l (activity_of part l).kind (timer_of x l) (slice_index_or (slice_set r.timers d.act (Some (record { due = d.time; held = y.held }))) l None)) (sym e)
-              (subst (λ (z : Option Kept). IsOne b j d.act (activity_of part d.act).kind z (slice_index_or (slice_set r.timers d.act (Some (record { due = d.time; held = y.held }))) d.act None)) (sym runs)
+              (subst (λ (z : Option KeptTimer). IsOne b j d.act (activity_of part d.act).kind z (slice_index_or (slice_set r.timers d.act (Some (record { due = d.time; held = y.held }))) d.act None)) (sym runs)
               (subst (λ (s : Option Timer). IsOne b j d.act (activity_of part d.act).kind (Some y) s) (sym (get_or-set_same r.timers d.act (Some (record { due = d.time; held = y.held })) None inside)) (refl, may)))
           by_act (inr n) =
               subst (λ (s : Option Timer). IsOne b j i (activity_of part i).kind (timer_of x i) s) (sym (get_or-set_other r.timers d.act i (Some (record { due = d.time; held = y.held })) None n))
               (lowered b d j i (activity_of part i).kind (timer_of x i) (slice_index_or r.timers i None) later
-              (subst (λ (z : Option Kept). IsOne d j i (activity_of part i).kind z (slice_index_or r.timers i None)) (get_or-set_other x.timers d.act i None None n) (is.timers i)))
+              (subst (λ (z : Option KeptTimer). IsOne d j i (activity_of part i).kind z (slice_index_or r.timers i None)) (get_or-set_other x.timers d.act i None None n) (is.timers i)))

@@ -10,7 +10,7 @@ use Rattle.san_law.specs.Step.{Event, Happened, Stepped, step}
 use Rattle.san_law.specs.Trajectory.{Runs}
 use Rattle.san_legal.specs.Draws.{AgreeNext, AgreeTaken, AreDraws}
 use Rattle.san_legal.specs.Locality.{IsSized}
-use Rattle.san_legal.specs.FreeRuns.{AreApart, FreeRuns, FreeRunsAreOfDraws, IsFreeStep, IsOfDraws}
+use Rattle.san_legal.specs.FreeRuns.{HasOwnStreams, FreeRuns, FreeRunsAreOfDraws, IsFreeStep, IsOfDraws}
 use Rattle.san_legal.proofs.StepLemmas.{more_sized, run_looks_at_taken, run_more, step_looks_at_taken, step_more}
 use Rattle.san_legal.proofs.NextDrawLemmas.{step_looks_at_next}
 
@@ -36,7 +36,7 @@ counted_there [] k n h = absurd (omega (arith, h))
 counted_there (c ∷ cs) zero n h = omega arith
 counted_there (c ∷ cs) (suc k) n h = let more = counted_there cs k n h in omega (arith, more)
 
-module _ (network : Network) (apart : AreApart network) (s : State) where
+module _ (network : Network) (apart : HasOwnStreams network) (s : State) where
   -- how many draws of a stream were taken
   abbrev count_of : ℕ → ℕ
   count_of stream = by_stream (λ a. slice_index (row_of s (apart.leaf_of a)).delays (apart.act_of a)) (λ a. slice_index (row_of s (apart.leaf_of a)).cases (apart.act_of a)) stream
@@ -100,7 +100,7 @@ module _ (network : Network) (apart : AreApart network) (s : State) where
 
 -- ---- runs
 
-module _ (network : Network) (apart : AreApart network) (limits : Limits) where
+module _ (network : Network) (apart : HasOwnStreams network) (limits : Limits) where
   step_before : (s t : State) (es : List Event) (x : Stepped × State) (e : Event) (u : State) → IsSized network s → IsFreeStep network limits s (Happened e, u) → IsOfDraws network limits u es t x → IsOfDraws network limits s (e ∷ es) t x
   step_before s t es x e u sized first rest =
       let one = net_of first.draw network limits in
@@ -137,7 +137,7 @@ module _ (network : Network) (apart : AreApart network) (limits : Limits) where
       let y = step (net_of draw network limits) s in
       (y.1, record { draw = draw; words = words; is = ap (λ (h : Stepped). (let z : Stepped × State = (h, y.1) in z)) runs.0 }, free_by draw words y.1 t es runs.1)
 
-pub free_runs_are_of_draws : (network : Network) → AreApart network → FreeRunsAreOfDraws network
+pub free_runs_are_of_draws : (network : Network) → HasOwnStreams network → FreeRunsAreOfDraws network
 free_runs_are_of_draws network apart limits s t es x sized = (
   (λ free. of_draws network apart limits s t es x sized free.0 free.1),
   (λ is. (free_by network apart limits is.draw is.words s t es is.runs, record { draw = is.draw; words = is.words; is = is.next })),

@@ -14,9 +14,9 @@ use Rattle.san_law.specs.State.{State, local_of}
 use Rattle.san_law.specs.Step.{End, Ending, Events, Happened, Over, Stepped, Trapped, Unstable, at_due, at_next, at_rest, complete, count_limit, events_left, fire, fired, limit_at, limit_by, step, unless_over}
 use Rattle.san_legal.specs.Draws.{AreDraws}
 use Rattle.san_legal.specs.Endings.{HasAfter, MayEnd, MayTrap}
-use Rattle.san_legal.specs.Kept.{AreRowsOf, IsOne, IsWithin, Kept, KeptState, bound_of, kept_at, timer_of, with_rows}
+use Rattle.san_legal.specs.Kept.{RowsAgree, IsOne, StateAgrees, KeptTimer, KeptState, bound_of, kept_at, timer_of, with_rows}
 use Rattle.san_legal.specs.KeptSteps.{kept_completed, kept_renewed, row_in, state_in, undrawn}
-use Rattle.san_legal.specs.Legal.{IsDone, IsRenewed, MayCome, MayFire, event_by, fired_at}
+use Rattle.san_legal.specs.Legal.{IsDone, RenewsTo, MayCome, MayFire, event_by, fired_at}
 use Rattle.san_legal.proofs.Chosen.{done_rows, have_some}
 use Rattle.san_legal.proofs.Fires.{fires, kept_left, left_of}
 use Rattle.san_legal.proofs.KeptRows.{AllDelays, AreSizedKept, RenewalAlike, alike_rows, renewal_alike}
@@ -64,7 +64,7 @@ limit_ends most limit burst count e is = by_test (nat_lt burst most) is
 
 -- an event or an ending may come, and what is left agrees with what is kept
 abbrev pub Judged : Network → Limits → KeptState → Stepped → State → Type 0
-Judged network limits k (Happened e) t = (next : KeptState) × MayCome network limits k e next × IsWithin network next t
+Judged network limits k (Happened e) t = (next : KeptState) × MayCome network limits k e next × StateAgrees network next t
 Judged network limits k (Over time ending) t = MayEnd network limits k time ending
 
 module _ (network : Network) (limits : Limits) (draw : ℕ → ℕ → ℕ) (words : AreDraws draw) where
@@ -75,9 +75,9 @@ module _ (network : Network) (limits : Limits) (draw : ℕ → ℕ → ℕ) (wor
   still = undrawn network limits
 
   -- a completion: it traps, or what it leaves agrees
-  module _ (k : KeptState) (rows : List Row) (are : AreRowsOf network (bound_of k) k.rows rows) (burst j i : ℕ) (P : Stepped → State → Type 0)
+  module _ (k : KeptState) (rows : List Row) (are : RowsAgree network (bound_of k) k.rows rows) (burst j i : ℕ) (P : Stepped → State → Type 0)
       (trapped : (trap : Trap) → MayTrap network limits k j i trap → P (Over k.time (Trapped j i trap)) (with_rows k rows))
-      (happened : (effect : Effected) → IsDone network limits k j i effect → (t : State) → IsWithin network (kept_completed still k burst j i effect.values) t → P (Happened (event_by network k.time j i effect)) t) where
+      (happened : (effect : Effected) → IsDone network limits k j i effect → (t : State) → StateAgrees network (kept_completed still k burst j i effect.values) t → P (Happened (event_by network k.time j i effect)) t) where
     abbrev part : Part
     part = part_at network j
 
@@ -98,7 +98,7 @@ module _ (network : Network) (limits : Limits) (draw : ℕ → ℕ → ℕ) (wor
     completion : P (complete net (with_rows k rows) burst j i (net.done j i l)).0 (complete net (with_rows k rows) burst j i (net.done j i l)).1
     completion = by_effect ((activity_of part i).complete u l.values) refl
 
-  module _ (free : AllDelays network) (k : KeptState) (sized : AreSizedKept network k.rows) (rows : List Row) (are : AreRowsOf network (bound_of k) k.rows rows) where
+  module _ (free : AllDelays network) (k : KeptState) (sized : AreSizedKept network k.rows) (rows : List Row) (are : RowsAgree network (bound_of k) k.rows rows) where
     abbrev s : State
     s = with_rows k rows
 
@@ -122,12 +122,12 @@ module _ (network : Network) (limits : Limits) (draw : ℕ → ℕ → ℕ) (wor
         by_end (inr same) = subst (MayEnd network limits k k.time) (sym same) (inl (refl, record { leaf = j; act = i; next = next; limit = stopped Events same }))
 
     module _ (next : next_instant still (state_in k) ≡ Stable) (fs : List Row) (renewed : renewed_from still (state_in k) 0 (map row_in k.rows) ≡ AllFresh fs)
-        (gs : List Row) (now : AreRowsOf network (bound_of k) (kept_renewed still k fs) gs) where
-      resting : IsRenewed network limits k fs
+        (gs : List Row) (now : RowsAgree network (bound_of k) (kept_renewed still k fs) gs) where
+      resting : RenewsTo network limits k fs
       resting = record { next = next; renewed = renewed }
 
       -- a timer fires
-      fired_by : (d : Due) → MayFire network limits k fs d → AreRowsOf network d (kept_left network (bound_of k) d (kept_renewed still k fs)) (left_of network (bound_of k) d (kept_renewed still k fs) gs)
+      fired_by : (d : Due) → MayFire network limits k fs d → RowsAgree network d (kept_left network (bound_of k) d (kept_renewed still k fs)) (left_of network (bound_of k) d (kept_renewed still k fs) gs)
           → (o : Option Ending) → count_limit still k.count ≡ o
           → JudgedTo (unless_over (fired net s gs d) o (complete net (fired net s gs d) 0 d.leaf d.act (net.done d.leaf d.act (local_of net (fired net s gs d) d.leaf))))
       fired_by d may left None limit =
@@ -139,7 +139,7 @@ module _ (network : Network) (limits : Limits) (draw : ℕ → ℕ → ℕ) (wor
           subst (MayEnd network limits k d.time) (sym same) (inr (record { rows = fs; due = d; fires = may; at = refl; limit = limit ∙ ap (λ (x : Ending). (let o : Option Ending = Some x in o)) same }))
 
       -- timers after the horizon
-      after_one : (j i : ℕ) (x : Option Kept) (t : Option Timer) → (h : (y : Timer) → t ≡ Some y → limits.horizon < y.due) → IsOne (bound_of k) j i (activity_of (part_at network j) i).kind x t → HasAfter limits.horizon (bound_of k) j i (activity_of (part_at network j) i).kind x
+      after_one : (j i : ℕ) (x : Option KeptTimer) (t : Option Timer) → (h : (y : Timer) → t ≡ Some y → limits.horizon < y.due) → IsOne (bound_of k) j i (activity_of (part_at network j) i).kind x t → HasAfter limits.horizon (bound_of k) j i (activity_of (part_at network j) i).kind x
       after_one j i None t h one = tt
       after_one j i (Some x) None h one = absurd one
       after_one j i (Some x) (Some t) h one = (t.due, one.1, h t refl)

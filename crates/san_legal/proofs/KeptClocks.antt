@@ -8,7 +8,7 @@ use Rattle.san_law.specs.Activity.{Activity, Part, activity_of, delay_stream, no
 use Rattle.san_law.specs.Clocks.{AllClocks, BadClock, Clock, Clocks, clock_and, clock_then, renewed_act, renewed_acts, renewed_row, row_of_clocks}
 use Rattle.san_legal.specs.Draws.{AreDraws}
 use Rattle.san_legal.specs.Free.{HasDelays}
-use Rattle.san_legal.specs.Kept.{HasOne, IsOne, IsRowOf, Kept, KeptRow, timer_of}
+use Rattle.san_legal.specs.Kept.{HasOne, IsOne, RowAgrees, KeptTimer, KeptRow, timer_of}
 use Rattle.san_legal.specs.KeptSteps.{row_in, set_by, set_row, set_timers, timer_in}
 use Rattle.san_legal.proofs.KeptActs.{Alike, Back, Before, act_alike, act_back, act_go, least_word}
 
@@ -29,19 +29,19 @@ first_then a f (suc i) = f i
 module _ (b : Due) (j time : ℕ) (from : b.time ≤ time) (seen values : List ℕ) where
   -- ---- alike
 
-  record AreAlike (k : ℕ) (acts : List Activity) (xs : List (Option Kept)) (ns : List ℕ) (us : List (Option Timer)) (ms : List ℕ) (vs : List (Option Timer)) (ls : List ℕ) : Type 0 where
+  record AreAlike (k : ℕ) (acts : List Activity) (xs : List (Option KeptTimer)) (ns : List ℕ) (us : List (Option Timer)) (ms : List ℕ) (vs : List (Option Timer)) (ls : List ℕ) : Type 0 where
     numbers : ms ≡ ls
     kept_long : length (set_timers time values xs ns us ms) ≡ length xs
     long : length vs ≡ length xs
     ones : (i : ℕ) → IsOne b j (k + i) (act_at acts i).kind (slice_index_or (set_timers time values xs ns us ms) i None) (slice_index_or vs i None)
 
-  abbrev ClocksAlike : ℕ → List Activity → List (Option Kept) → List ℕ → Clocks → Clocks → Type 0
+  abbrev ClocksAlike : ℕ → List Activity → List (Option KeptTimer) → List ℕ → Clocks → Clocks → Type 0
   ClocksAlike k acts xs ns (BadClock i e) (BadClock l f) = (i ≡ l) × (e ≡ f)
   ClocksAlike k acts xs ns (BadClock i e) (AllClocks vs ls) = ⊥
   ClocksAlike k acts xs ns (AllClocks us ms) (BadClock l f) = ⊥
   ClocksAlike k acts xs ns (AllClocks us ms) (AllClocks vs ls) = AreAlike k acts xs ns us ms vs ls
 
-  then_alike : (k : ℕ) (a : Activity) (acts : List Activity) (x : Option Kept) (xs : List (Option Kept)) (n : ℕ) (ns : List ℕ) (r q : Result Clock Trap) (rest more : Clocks)
+  then_alike : (k : ℕ) (a : Activity) (acts : List Activity) (x : Option KeptTimer) (xs : List (Option KeptTimer)) (n : ℕ) (ns : List ℕ) (r q : Result Clock Trap) (rest more : Clocks)
       → Alike b j k a.kind time values x n r q → ClocksAlike (suc k) acts xs ns rest more → ClocksAlike k (a ∷ acts) (x ∷ xs) (n ∷ ns) (clock_then k r rest) (clock_then k q more)
   then_alike k a acts x xs n ns (Err e) (Err f) rest more h g = (refl, h)
   then_alike k a acts x xs n ns (Err e) (Ok d) rest more h g = absurd h
@@ -60,7 +60,7 @@ module _ (b : Due) (j time : ℕ) (from : b.time ≤ time) (seen values : List �
       each zero = let here : k ≡ k + 0 = omega arith in subst (λ (l : ℕ). IsOne b j l a.kind (set_by time values x (nat_lt n c.1) c.0) d.0) here h.1
       each (suc i) = let there : suc k + i ≡ k + suc i = omega arith in subst (λ (l : ℕ). IsOne b j l (act_at acts i).kind (slice_index_or (set_timers time values xs ns us ms) i None) (slice_index_or vs i None)) there (g.ones i)
 
-  acts_alike : (draws : ℕ → ℕ → ℕ) → ((i n : ℕ) → draws i n < 2 ^ 64) → (k : ℕ) (acts : List Activity) (xs : List (Option Kept)) (ns : List ℕ) (ts : List (Option Timer))
+  acts_alike : (draws : ℕ → ℕ → ℕ) → ((i n : ℕ) → draws i n < 2 ^ 64) → (k : ℕ) (acts : List Activity) (xs : List (Option KeptTimer)) (ns : List ℕ) (ts : List (Option Timer))
       → length xs ≡ length acts → length ns ≡ length acts → length ts ≡ length acts → ((i : ℕ) → HasDelays (act_at acts i).kind) → ((i : ℕ) → IsOne b j (k + i) (act_at acts i).kind (slice_index_or xs i None) (slice_index_or ts i None))
       → ClocksAlike k acts xs ns (renewed_acts (λ i n. 0) time seen values k acts (map timer_in xs) ns) (renewed_acts draws time seen values k acts ts ns)
   acts_alike draws words k [] [] [] [] lx ln lt free ones = record { numbers = refl; kept_long = refl; long = refl; ones = λ i. tt }
@@ -84,7 +84,7 @@ module _ (b : Due) (j time : ℕ) (from : b.time ≤ time) (seen values : List �
   RowAlike part x (Faulty i e) (Faulty l f) = (i ≡ l) × (e ≡ f)
   RowAlike part x (Faulty i e) (Fresh s) = ⊥
   RowAlike part x (Fresh r) (Faulty l f) = ⊥
-  RowAlike part x (Fresh r) (Fresh s) = IsRowOf b j part (set_row time values x r) s
+  RowAlike part x (Fresh r) (Fresh s) = RowAgrees b j part (set_row time values x r) s
 
   clocks_alike : (part : Part) (x : KeptRow) (cases : List ℕ) → cases ≡ x.cases → (c d : Clocks) → ClocksAlike 0 part.activities x.timers x.delays c d → RowAlike part x (row_of_clocks x.cases c) (row_of_clocks cases d)
   clocks_alike part x cases same (BadClock i e) (BadClock l f) h = h
@@ -97,7 +97,7 @@ module _ (b : Due) (j time : ℕ) (from : b.time ≤ time) (seen values : List �
     cases = same;
   }
 
-  pub row_alike : (draw : ℕ → ℕ → ℕ) → AreDraws draw → (part : Part) (x : KeptRow) (r : Row) → IsSizedKept part x → ((i : ℕ) → HasDelays (activity_of part i).kind) → IsRowOf b j part x r
+  pub row_alike : (draw : ℕ → ℕ → ℕ) → AreDraws draw → (part : Part) (x : KeptRow) (r : Row) → IsSizedKept part x → ((i : ℕ) → HasDelays (activity_of part i).kind) → RowAgrees b j part x r
       → RowAlike part x (renewed_row (λ s n. 0) part time seen (record { values = values; row = row_in x })) (renewed_row draw part time seen (record { values = values; row = r }))
   row_alike draw words part x r sized free is =
       let long : length r.timers ≡ length part.activities = is.long ∙ sized.timers in
@@ -111,7 +111,7 @@ module _ (b : Due) (j time : ℕ) (from : b.time ≤ time) (seen values : List �
 
   -- ---- back
 
-  record ActsBefore (k : ℕ) (acts : List Activity) (xs : List (Option Kept)) (ns : List ℕ) (ys : List (Option Timer)) (ms : List ℕ) : Type 0 where
+  record ActsBefore (k : ℕ) (acts : List Activity) (xs : List (Option KeptTimer)) (ns : List ℕ) (ys : List (Option Timer)) (ms : List ℕ) : Type 0 where
     draws : ℕ → ℕ
     words : (i : ℕ) → draws i < 2 ^ 64
     timers : List (Option Timer)
@@ -119,12 +119,12 @@ module _ (b : Due) (j time : ℕ) (from : b.time ≤ time) (seen values : List �
     ones : (i : ℕ) → IsOne b j (k + i) (act_at acts i).kind (slice_index_or xs i None) (slice_index_or timers i None)
     is : (streams : ℕ → ℕ → ℕ) → ((i : ℕ) → i < length acts → streams (k + i) (slice_index ns i) ≡ draws i) → renewed_acts streams time seen values k acts timers ns ≡ AllClocks ys ms
 
-  abbrev ActsBack : ℕ → List Activity → List (Option Kept) → List ℕ → Clocks → Type 0
+  abbrev ActsBack : ℕ → List Activity → List (Option KeptTimer) → List ℕ → Clocks → Type 0
   ActsBack k acts xs ns (BadClock i e) = Unit {0}
   ActsBack k acts xs ns (AllClocks us ms) = (ys : List (Option Timer)) → length ys ≡ length (set_timers time values xs ns us ms)
       → ((i : ℕ) → IsOne b j (k + i) (act_at acts i).kind (slice_index_or (set_timers time values xs ns us ms) i None) (slice_index_or ys i None)) → ActsBefore k acts xs ns ys ms
 
-  both_before : (k : ℕ) (a : Activity) (acts : List Activity) (x : Option Kept) (xs : List (Option Kept)) (n : ℕ) (ns : List ℕ) (y : Option Timer) (ys : List (Option Timer)) (m : ℕ) (ms : List ℕ)
+  both_before : (k : ℕ) (a : Activity) (acts : List Activity) (x : Option KeptTimer) (xs : List (Option KeptTimer)) (n : ℕ) (ns : List ℕ) (y : Option Timer) (ys : List (Option Timer)) (m : ℕ) (ms : List ℕ)
       → Before b j k a.kind x n (act_go b j k time from seen values a a.kind n) y m → ActsBefore (suc k) acts xs ns ys ms → ActsBefore k (a ∷ acts) (x ∷ xs) (n ∷ ns) (y ∷ ys) (m ∷ ms)
   both_before k a acts x xs n ns y ys m ms one more = record {
     draws = first_then one.draw more.draws;
@@ -148,7 +148,7 @@ module _ (b : Due) (j time : ℕ) (from : b.time ≤ time) (seen values : List �
       each zero = let here : k ≡ k + 0 = omega arith in subst (λ (l : ℕ). IsOne b j l a.kind x one.timer) here one.one
       each (suc i) = let there : suc k + i ≡ k + suc i = omega arith in subst (λ (l : ℕ). IsOne b j l (act_at acts i).kind (slice_index_or xs i None) (slice_index_or more.timers i None)) there (more.ones i)
 
-  then_back : (k : ℕ) (a : Activity) (acts : List Activity) (x : Option Kept) (xs : List (Option Kept)) (n : ℕ) (ns : List ℕ) (r : Result Clock Trap) (rest : Clocks)
+  then_back : (k : ℕ) (a : Activity) (acts : List Activity) (x : Option KeptTimer) (xs : List (Option KeptTimer)) (n : ℕ) (ns : List ℕ) (r : Result Clock Trap) (rest : Clocks)
       → Back b j k a.kind time values x n (act_go b j k time from seen values a a.kind n) r → ActsBack (suc k) acts xs ns rest → ActsBack k (a ∷ acts) (x ∷ xs) (n ∷ ns) (clock_then k r rest)
   then_back k a acts x xs n ns (Err e) rest h g = tt
   then_back k a acts x xs n ns (Ok c) (BadClock i e) h g = tt
@@ -167,7 +167,7 @@ module _ (b : Due) (j time : ℕ) (from : b.time ≤ time) (seen values : List �
   none_back k [] long = record { draws = λ i. 0; words = λ i. least_word; timers = []; long = refl; ones = λ i. tt; is = λ streams agree. refl }
   none_back k (y ∷ ys) long = absurd (omega (arith, long))
 
-  acts_back : (k : ℕ) (acts : List Activity) (xs : List (Option Kept)) (ns : List ℕ) → length xs ≡ length acts → length ns ≡ length acts → ((i : ℕ) → HasDelays (act_at acts i).kind)
+  acts_back : (k : ℕ) (acts : List Activity) (xs : List (Option KeptTimer)) (ns : List ℕ) → length xs ≡ length acts → length ns ≡ length acts → ((i : ℕ) → HasDelays (act_at acts i).kind)
       → ((i : ℕ) → HasOne b j (k + i) (act_at acts i).kind (slice_index_or xs i None)) → ActsBack k acts xs ns (renewed_acts (λ i n. 0) time seen values k acts (map timer_in xs) ns)
   acts_back k [] [] [] lx ln free some = λ ys long ones. none_back k ys long
   acts_back k [] (x ∷ xs) ns lx ln free some = absurd (omega (arith, lx))
@@ -185,12 +185,12 @@ module _ (b : Due) (j time : ℕ) (from : b.time ≤ time) (seen values : List �
     pub draws : ℕ → ℕ
     pub words : (i : ℕ) → draws i < 2 ^ 64
     pub row : Row
-    pub of : IsRowOf b j part x row
+    pub of : RowAgrees b j part x row
     pub is : (draw : ℕ → ℕ → ℕ) → ((i : ℕ) → i < length part.activities → draw (delay_stream part i) (slice_index x.delays i) ≡ draws i) → renewed_row draw part time seen (record { values = values; row = row }) ≡ Fresh y
 
   abbrev pub RowBack : Part → KeptRow → Renewing → Type 0
   RowBack part x (Faulty i e) = Unit {0}
-  RowBack part x (Fresh r) = (y : Row) → IsRowOf b j part (set_row time values x r) y → RowBefore part x y
+  RowBack part x (Fresh r) = (y : Row) → RowAgrees b j part (set_row time values x r) y → RowBefore part x y
 
   clocks_back : (part : Part) (x : KeptRow) (c : Clocks) → ActsBack 0 part.activities x.timers x.delays c → RowBack part x (row_of_clocks x.cases c)
   clocks_back part x (BadClock i e) h = tt

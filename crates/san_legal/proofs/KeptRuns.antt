@@ -11,10 +11,10 @@ use Rattle.san_law.specs.Step.{Ending, Event, Happened, Over, Stepped, step}
 use Rattle.san_law.specs.Trajectory.{Runs, Trajectory, followed_by, ran_by, ran_on, run, trajectory}
 use Rattle.san_legal.specs.Free.{IsFreeNetwork}
 use Rattle.san_legal.specs.FreeRuns.{FreeRuns, IsFreeStep, IsOfDraws}
-use Rattle.san_legal.specs.Kept.{HasOne, HaveSome, IsWithin, Kept, KeptRow, KeptState, bound_of, kept_at, with_rows}
+use Rattle.san_legal.specs.Kept.{HasOne, HaveSome, StateAgrees, KeptTimer, KeptRow, KeptState, bound_of, kept_at, with_rows}
 use Rattle.san_legal.specs.KeptSteps.{kept_case, kept_completed, kept_opening, undrawn}
-use Rattle.san_legal.specs.Laws.{BeginsRun, IsKept, IsLegal, IsTrajectory, KeptStateIsOne, KeptStatesAreThoseOfRuns, LegalEventsAreThoseOfRuns, LegalEventsBeginRuns, LegalRunsAreThoseOfDraws, Reaches}
-use Rattle.san_legal.specs.Legal.{IsDone, IsInstant, IsTimed, MayCome, MayFollow, due_in, event_by, fired_at}
+use Rattle.san_legal.specs.Laws.{BeginsRun, IsKept, IsLegal, IsTrajectory, KeptStateIsOne, KeptStatesAreThoseOfRuns, LegalEventsAreThoseOfRuns, LegalEventsBeginRuns, LegalRunsAreThoseOfDraws, IsReached}
+use Rattle.san_legal.specs.Legal.{IsDone, InstantMayCome, TimedMayCome, MayCome, MayFollow, due_in, event_by, fired_at}
 use Rattle.san_legal.specs.Locality.{IsSized}
 use Rattle.san_legal.proofs.Chosen.{some_rows}
 use Rattle.san_legal.proofs.Finding.{Found, IsReady, ending_found, event_found}
@@ -26,12 +26,12 @@ use Rattle.san_legal.proofs.StepLemmas.{same_all, step_more, more_sized}
 
 -- ---- sizes
 
-sized_state : (network : Network) (k : KeptState) (s : State) → AreSizedKept network k.rows → IsWithin network k s → IsSized network s
+sized_state : (network : Network) (k : KeptState) (s : State) → AreSizedKept network k.rows → StateAgrees network k s → IsSized network s
 sized_state network k s sized within j =
     let is = within.rows.each j in
     record { timers = is.long ∙ (sized j).timers; delays = ap length is.delays ∙ (sized j).delays; cases = ap length is.cases ∙ (sized j).cases }
 
-sized_kept : (network : Network) (k : KeptState) (s : State) → IsSized network s → IsWithin network k s → AreSizedKept network k.rows
+sized_kept : (network : Network) (k : KeptState) (s : State) → IsSized network s → StateAgrees network k s → AreSizedKept network k.rows
 sized_kept network k s sized within j =
     let is = within.rows.each j in
     record { timers = sym is.long ∙ (sized j).timers; delays = sym (ap length is.delays) ∙ (sized j).delays; cases = sym (ap length is.cases) ∙ (sized j).cases }
@@ -46,7 +46,7 @@ keeps_set (y ∷ xs) (suc j) x e (suc l) = keeps_set xs j x e l
 
 some_done : (network : Network) (b : Due) (xs : List KeptRow) (j i : ℕ) → HaveSome network b xs → HaveSome network b (slice_set xs j (kept_case (kept_at xs j) i))
 some_done network b xs j i some l m =
-    subst (λ (ts : List (Option Kept)). HasOne b l m (activity_of (part_at network l) m).kind (slice_index_or ts m None)) (sym (keeps_set xs j (kept_case (kept_at xs j) i) refl l)) (some l m)
+    subst (λ (ts : List (Option KeptTimer)). HasOne b l m (activity_of (part_at network l) m).kind (slice_index_or ts m None)) (sym (keeps_set xs j (kept_case (kept_at xs j) i) refl l)) (some l m)
 
 append_none : {A : Type 0} (xs : List A) → xs ++ [] ≡ xs
 append_none [] = refl
@@ -73,7 +73,7 @@ module _ (network : Network) (free : IsFreeNetwork network) (limits : Limits) wh
       let some = some_after k e after ready may in
       let any = some_rows network (bound_of after) after.rows some in
       let t : State = with_rows after any.0 in
-      let within : IsWithin network after t = record { same = refl; rows = any.1 } in
+      let within : StateAgrees network after t = record { same = refl; rows = any.1 } in
       let found : Found network limits k (Happened e, t) = event_found network limits k ready free e after t may within in
       let net = net_of found.step.draw network limits in
       let happens : (step net found.state).0 ≡ Happened e = ap (λ (y : Stepped × State). y.0) found.step.is in
@@ -88,7 +88,7 @@ module _ (network : Network) (free : IsFreeNetwork network) (limits : Limits) wh
 
   -- ---- forward
 
-  step_by : (k : KeptState) (s : State) (x : Stepped × State) → IsReady network k → IsWithin network k s → IsFreeStep network limits s x → Judged network limits k x.0 x.1
+  step_by : (k : KeptState) (s : State) (x : Stepped × State) → IsReady network k → StateAgrees network k s → IsFreeStep network limits s x → Judged network limits k x.0 x.1
   step_by k s x ready within is =
       let net = net_of is.draw network limits in
       let same : step net (with_rows k s.rows) ≡ x = ap (step net) (sym within.same) ∙ is.is in
@@ -97,11 +97,11 @@ module _ (network : Network) (free : IsFreeNetwork network) (limits : Limits) wh
   record KeptBy (k : KeptState) (es : List Event) (t : State) : Type 0 where
     after : KeptState
     follow : MayFollow network limits k es after
-    within : IsWithin network after t
+    within : StateAgrees network after t
     ready : IsReady network after
 
-  run_judged : (k : KeptState) (s t : State) (es : List Event) → IsReady network k → IsWithin network k s → FreeRuns network limits s es t → KeptBy k es t
-  run_judged k s t [] ready within runs = record { after = k; follow = refl; within = subst (IsWithin network k) runs within; ready = ready }
+  run_judged : (k : KeptState) (s t : State) (es : List Event) → IsReady network k → StateAgrees network k s → FreeRuns network limits s es t → KeptBy k es t
+  run_judged k s t [] ready within runs = record { after = k; follow = refl; within = subst (StateAgrees network k) runs within; ready = ready }
   run_judged k s t (e ∷ es) ready within runs =
       let now = step_by k s (Happened e, runs.0) ready within runs.1 in
       let more = run_judged now.0 runs.0 t es (ready_after k e now.0 ready now.1) now.2 runs.2 in
@@ -109,8 +109,8 @@ module _ (network : Network) (free : IsFreeNetwork network) (limits : Limits) wh
 
   -- ---- back
 
-  run_found : (k after : KeptState) (t : State) (es : List Event) → IsReady network k → MayFollow network limits k es after → IsWithin network after t → (s : State) × IsWithin network k s × FreeRuns network limits s es t
-  run_found k after t [] ready same within = (t, subst (λ (x : KeptState). IsWithin network x t) (sym same) within, refl)
+  run_found : (k after : KeptState) (t : State) (es : List Event) → IsReady network k → MayFollow network limits k es after → StateAgrees network after t → (s : State) × StateAgrees network k s × FreeRuns network limits s es t
+  run_found k after t [] ready same within = (t, subst (λ (x : KeptState). StateAgrees network x t) (sym same) within, refl)
   run_found k after t (e ∷ es) ready may within =
       let more = run_found may.0 after t es (ready_after k e may.0 ready may.1) may.2 within in
       let found : Found network limits k (Happened e, more.0) = event_found network limits k ready free e may.0 more.0 may.1 more.1 in
@@ -124,11 +124,11 @@ module _ (network : Network) (free : IsFreeNetwork network) (limits : Limits) wh
   not_stable : (j i : ℕ) → (let w : Next = Completes j i in w) ≡ Stable → ⊥
   not_stable j i h = cc
 
-  instant_one : (k : KeptState) (e : Event) (a c : KeptState) → IsInstant network limits k e a → IsInstant network limits k e c → a ≡ c
+  instant_one : (k : KeptState) (e : Event) (a c : KeptState) → InstantMayCome network limits k e a → InstantMayCome network limits k e c → a ≡ c
   instant_one k e a c x y =
       x.left ∙ (ap (kept_completed still k (k.burst + 1) e.leaf e.act) (same_values k e.leaf e.act k.time x.effect y.effect e x.done y.done x.event y.event) ∙ sym y.left)
 
-  timed_one : (k : KeptState) (e : Event) (a c : KeptState) → IsTimed network limits k e a → IsTimed network limits k e c → a ≡ c
+  timed_one : (k : KeptState) (e : Event) (a c : KeptState) → TimedMayCome network limits k e a → TimedMayCome network limits k e c → a ≡ c
   timed_one k e a c x y =
       let rows : y.rows ≡ x.rows = same_all y.rows x.rows (sym y.fires.renewed.renewed ∙ x.fires.renewed.renewed) in
       let now : KeptState = fired_at network limits k x.rows (due_in e) in
@@ -156,7 +156,7 @@ module _ (network : Network) (free : IsFreeNetwork network) (limits : Limits) wh
   abbrev blank : KeptState
   blank = kept_opening still
 
-  free_of : (es : List Event) (s : State) → Reaches network limits es s → FreeRuns network limits opening es s
+  free_of : (es : List Event) (s : State) → IsReached network limits es s → FreeRuns network limits opening es s
   free_of es s is = free_by network free.apart limits is.draw is.words opening s es (subst (λ (o : State). Runs (net_of is.draw network limits) o es s) (opening_same network limits is.draw (λ s n. 0)) is.runs)
 
   draws_of : (es : List Event) (s : State) (x : Stepped × State) → FreeRuns network limits opening es s → IsFreeStep network limits s x → IsOfDraws network limits opening es s x
@@ -165,28 +165,28 @@ module _ (network : Network) (free : IsFreeNetwork network) (limits : Limits) wh
   runs_of : (draw : ℕ → ℕ → ℕ) (es : List Event) (s : State) → Runs (net_of draw network limits) opening es s → Runs (net_of draw network limits) (opening_state (net_of draw network limits)) es s
   runs_of draw es s runs = subst (λ (o : State). Runs (net_of draw network limits) o es s) (opening_same network limits (λ s n. 0) draw) runs
 
-  reaches : (es : List Event) (s : State) → FreeRuns network limits opening es s → Reaches network limits es s
+  reaches : (es : List Event) (s : State) → FreeRuns network limits opening es s → IsReached network limits es s
   reaches es s runs =
       let of = draws_of es s (step still s) runs (record { draw = λ s n. 0; words = λ s n. omega arith; is = refl }) in
       record { draw = of.draw; words = of.words; runs = runs_of of.draw es s of.runs }
 
-  kept_of : (es : List Event) (s : State) → Reaches network limits es s → KeptBy blank es s
+  kept_of : (es : List Event) (s : State) → IsReached network limits es s → KeptBy blank es s
   kept_of es s is = run_judged blank opening s es (opening_ready network limits) (opening_within network limits) (free_of es s is)
 
-  runs_to : (es : List Event) (k : KeptState) (s : State) → IsKept network limits es k → IsWithin network k s → FreeRuns network limits opening es s
+  runs_to : (es : List Event) (k : KeptState) (s : State) → IsKept network limits es k → StateAgrees network k s → FreeRuns network limits opening es s
   runs_to es k s follow within =
       let found = run_found blank k s es (opening_ready network limits) follow within in
       subst (λ (o : State). FreeRuns network limits o es s) (opening_only network limits found.0 found.1) found.2
 
-  within_kept : (es : List Event) (k : KeptState) (s : State) → IsKept network limits es k → Reaches network limits es s → IsWithin network k s
+  within_kept : (es : List Event) (k : KeptState) (s : State) → IsKept network limits es k → IsReached network limits es s → StateAgrees network k s
   within_kept es k s follow is =
       let came = kept_of es s is in
-      subst (λ (x : KeptState). IsWithin network x s) (follow_one blank es came.after k came.follow follow) came.within
+      subst (λ (x : KeptState). StateAgrees network x s) (follow_one blank es came.after k came.follow follow) came.within
 
-  reaches_kept : (es : List Event) (k : KeptState) (s : State) → IsKept network limits es k → IsWithin network k s → Reaches network limits es s
+  reaches_kept : (es : List Event) (k : KeptState) (s : State) → IsKept network limits es k → StateAgrees network k s → IsReached network limits es s
   reaches_kept es k s follow within = reaches es s (runs_to es k s follow within)
 
-  kept_reached : (es : List Event) (k : KeptState) → IsKept network limits es k → (s : State) × Reaches network limits es s
+  kept_reached : (es : List Event) (k : KeptState) → IsKept network limits es k → (s : State) × IsReached network limits es s
   kept_reached es k follow =
       let ready = follow_ready blank k es (opening_ready network limits) follow in
       let any = some_rows network (bound_of k) k.rows ready.some in

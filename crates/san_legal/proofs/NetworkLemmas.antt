@@ -23,7 +23,7 @@ use Rattle.san_net.specs.declared.atomic.ImpulseTerm.{ImpulseTerm}
 use Rattle.san_net.specs.declared.part.Part.{Part}
 use Rattle.san_net.proofs.PartLemmas.{activities_long, part_is, part_there}
 use Rattle.san_legal.specs.Free.{HasDelays, IsFree, IsFreeNetwork}
-use Rattle.san_legal.specs.FreeRuns.{AreApart}
+use Rattle.san_legal.specs.FreeRuns.{HasOwnStreams}
 use Rattle.san_legal.specs.Laws.{KeptStatesAreThoseOfRuns, LegalEventsAreThoseOfRuns, LegalRunsAreThoseOfDraws}
 use Rattle.san_legal.proofs.DelayLemmas.{are_delays}
 use Rattle.san_legal.proofs.KeptRuns.{kept_states_are_those_of_runs, legal_events_are_those_of_runs, legal_runs_are_those_of_draws}
@@ -173,7 +173,7 @@ module _ (n : Network) (net : IsNetwork n) where
       let first : (law.part_at (network_in n) j).first ≡ acts_of (take j n.parts) = ap (λ (x : leaf.Part). x.first) same ∙ net.numbered.acts j p there.1 in
       ap (λ (x : ℕ). place_in n.parts (x + k)) first ∙ place_is n.parts j k p there.1 inside
 
-  streams_apart : AreApart (network_in n)
+  streams_apart : HasOwnStreams (network_in n)
   streams_apart = record {
     leaf_of = λ a. (place_in n.parts a).0;
     act_of = λ a. (place_in n.parts a).1;

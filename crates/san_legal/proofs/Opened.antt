@@ -7,7 +7,7 @@ use Rattle.san_law.specs.Net.{Net, Row, Slot, Timer, no_row}
 use Rattle.san_law.specs.Network.{Limits, Network, net_of, no_part, part_at}
 use Rattle.san_law.specs.Renewal.{Due}
 use Rattle.san_law.specs.State.{State, blank_row, blank_rows, opening_state, repeated, row_of}
-use Rattle.san_legal.specs.Kept.{HasOne, HaveSome, IsOne, IsRowOf, IsWithin, Kept, KeptRow, KeptState, bound_of, kept_at, timer_of, with_rows}
+use Rattle.san_legal.specs.Kept.{HasOne, HaveSome, IsOne, RowAgrees, StateAgrees, KeptTimer, KeptRow, KeptState, bound_of, kept_at, timer_of, with_rows}
 use Rattle.san_legal.specs.KeptSteps.{kept_bare, kept_opening, undrawn}
 use Rattle.san_legal.specs.Locality.{IsSized, IsSizedRow}
 use Rattle.san_legal.proofs.Finding.{IsReady}
@@ -83,7 +83,7 @@ module _ (network : Network) (limits : Limits) where
   bare_at (r ∷ rows) zero = refl
   bare_at (r ∷ rows) (suc j) = bare_at rows j
 
-  bare_none : (ts : List (Option Timer)) (i : ℕ) → slice_index_or (map (λ (t : Option Timer). (let o : Option Kept = None in o)) ts) i None ≡ None
+  bare_none : (ts : List (Option Timer)) (i : ℕ) → slice_index_or (map (λ (t : Option Timer). (let o : Option KeptTimer = None in o)) ts) i None ≡ None
   bare_none [] i = refl
   bare_none (t ∷ ts) zero = refl
   bare_none (t ∷ ts) (suc i) = bare_none ts i
@@ -96,7 +96,7 @@ module _ (network : Network) (limits : Limits) where
       let was = opening_sized j in
       let r = row_of opening j in
       subst (IsSizedKept (part_at network j)) (sym (bare_at opening.rows j))
-      (record { timers = length-map r.timers (λ (t : Option Timer). (let o : Option Kept = None in o)) ∙ was.timers; delays = was.delays; cases = was.cases })
+      (record { timers = length-map r.timers (λ (t : Option Timer). (let o : Option KeptTimer = None in o)) ∙ was.timers; delays = was.delays; cases = was.cases })
 
   opening_some : HaveSome network (bound_of kept) kept.rows
   opening_some j i =
@@ -109,23 +109,23 @@ module _ (network : Network) (limits : Limits) where
 
   -- ---- the opening agrees
 
-  bare_of : (b : Due) (j : ℕ) (part : Part) (r : Row) → ((i : ℕ) → slice_index_or r.timers i None ≡ None) → IsRowOf b j part (kept_bare r) r
+  bare_of : (b : Due) (j : ℕ) (part : Part) (r : Row) → ((i : ℕ) → slice_index_or r.timers i None ≡ None) → RowAgrees b j part (kept_bare r) r
   bare_of b j part r none = record {
-    long = sym (length-map r.timers (λ (t : Option Timer). (let o : Option Kept = None in o)));
+    long = sym (length-map r.timers (λ (t : Option Timer). (let o : Option KeptTimer = None in o)));
     timers = λ i. (
         let kind = (activity_of part i).kind in
-        subst (λ (x : Option Kept). IsOne b j i kind x (slice_index_or r.timers i None)) (sym (bare_none r.timers i))
+        subst (λ (x : Option KeptTimer). IsOne b j i kind x (slice_index_or r.timers i None)) (sym (bare_none r.timers i))
         (subst (λ (t : Option Timer). IsOne b j i kind None t) (sym (none i)) tt));
     delays = refl;
     cases = refl;
   }
 
-  pub opening_within : IsWithin network kept opening
+  pub opening_within : StateAgrees network kept opening
   opening_within = record {
     same = refl;
     rows = record {
       long = sym (length-map opening.rows kept_bare);
-      each = λ j. subst (λ (x : KeptRow). IsRowOf (bound_of kept) j (part_at network j) x (row_at opening.rows j)) (sym (bare_at opening.rows j)) (bare_of (bound_of kept) j (part_at network j) (row_at opening.rows j) (blank_none still 0 still.parts j));
+      each = λ j. subst (λ (x : KeptRow). RowAgrees (bound_of kept) j (part_at network j) x (row_at opening.rows j)) (sym (bare_at opening.rows j)) (bare_of (bound_of kept) j (part_at network j) (row_at opening.rows j) (blank_none still 0 still.parts j));
     };
   }
 
@@ -148,19 +148,19 @@ module _ (network : Network) (limits : Limits) where
   none_by b j i part None one = refl
   none_by b j i part (Some t) one = absurd one
 
-  row_only : (b : Due) (j : ℕ) (part : Part) (r q : Row) → ((i : ℕ) → slice_index_or r.timers i None ≡ None) → IsRowOf b j part (kept_bare r) q → q ≡ r
+  row_only : (b : Due) (j : ℕ) (part : Part) (r q : Row) → ((i : ℕ) → slice_index_or r.timers i None ≡ None) → RowAgrees b j part (kept_bare r) q → q ≡ r
   row_only b j part r q none is =
       let timers : q.timers ≡ r.timers
-      = timers_only q.timers r.timers (is.long ∙ length-map r.timers (λ (t : Option Timer). (let o : Option Kept = None in o)))
-      (λ i. none_by b j i part (slice_index_or q.timers i None) (subst (λ (x : Option Kept). IsOne b j i (activity_of part i).kind x (slice_index_or q.timers i None)) (bare_none r.timers i) (is.timers i))) none in
+      = timers_only q.timers r.timers (is.long ∙ length-map r.timers (λ (t : Option Timer). (let o : Option KeptTimer = None in o)))
+      (λ i. none_by b j i part (slice_index_or q.timers i None) (subst (λ (x : Option KeptTimer). IsOne b j i (activity_of part i).kind x (slice_index_or q.timers i None)) (bare_none r.timers i) (is.timers i))) none in
       ap (λ (ts : List (Option Timer)). (let x : Row = record { timers = ts; delays = q.delays; cases = q.cases } in x)) timers
       ∙ (ap (λ (ns : List ℕ). (let x : Row = record { timers = r.timers; delays = ns; cases = q.cases } in x)) is.delays
       ∙ ap (λ (ns : List ℕ). (let x : Row = record { timers = r.timers; delays = r.delays; cases = ns } in x)) is.cases)
 
-  pub opening_only : (s : State) → IsWithin network kept s → s ≡ opening
+  pub opening_only : (s : State) → StateAgrees network kept s → s ≡ opening
   opening_only s within =
       let rows : s.rows ≡ opening.rows
       = rows_only s.rows opening.rows (within.rows.long ∙ length-map opening.rows kept_bare)
       (λ j. row_only (bound_of kept) j (part_at network j) (row_at opening.rows j) (row_at s.rows j) (blank_none still 0 still.parts j)
-      (subst (λ (x : KeptRow). IsRowOf (bound_of kept) j (part_at network j) x (row_at s.rows j)) (bare_at opening.rows j) (within.rows.each j))) in
+      (subst (λ (x : KeptRow). RowAgrees (bound_of kept) j (part_at network j) x (row_at s.rows j)) (bare_at opening.rows j) (within.rows.each j))) in
       within.same ∙ ap (with_rows kept) rows

@@ -13,15 +13,15 @@ use Rattle.san_legal.specs.Endings.{HasAfter, MayWait}
 use Rattle.san_legal.specs.Examples.{after_both, after_steady, no_draw_taken, race, racing, set_at_opening, slow_late, steady_then_slow, ten_ticks, two_draws_taken}
 use Rattle.san_legal.specs.Kept.{HaveSome, bound_of, kept_at, timer_of}
 use Rattle.san_legal.specs.KeptSteps.{kept_fired, kept_renewed}
-use Rattle.san_legal.specs.Laws.{IsLegal}
-use Rattle.san_legal.specs.Legal.{IsRenewed, IsTimed, MayFire, due_in}
+use Rattle.san_legal.specs.Laws.{IsKept, IsLegal}
+use Rattle.san_legal.specs.Legal.{RenewsTo, TimedMayCome, MayFire, due_in}
 use Rattle.san_legal.proofs.Computed.{steady_comes}
 
 -- the renewal after the steady one's completion takes no draw
 abbrev later_rows : List Row
 later_rows = record { timers = Some (record { due = 0; held = false }) ∷ None ∷ []; delays = 1 ∷ 1 ∷ []; cases = 0 ∷ 1 ∷ [] } ∷ []
 
-later_renewed : IsRenewed racing ten_ticks after_steady later_rows
+later_renewed : RenewsTo racing ten_ticks after_steady later_rows
 unfolding next_instant
 later_renewed = record { next = refl; renewed = refl }
 
@@ -45,7 +45,7 @@ slow_fires = record {
 abbrev taken : Effected
 taken = record { case = 0; values = put ((0, 0) ∷ []) (1 ∷ 0 ∷ []); sets = λ p. is_in (index_of p (places_of ((0, 0) ∷ []))) }
 
-slow_comes : IsTimed racing ten_ticks after_steady slow_late after_both
+slow_comes : TimedMayCome racing ten_ticks after_steady slow_late after_both
 unfolding scatter
 slow_comes = record {
   rows = later_rows;
@@ -60,7 +60,7 @@ slow_comes = record {
 abbrev last_rows : List Row
 last_rows = record { timers = None ∷ None ∷ []; delays = 1 ∷ 1 ∷ []; cases = 1 ∷ 1 ∷ [] } ∷ []
 
-last_renewed : IsRenewed racing ten_ticks after_both last_rows
+last_renewed : RenewsTo racing ten_ticks after_both last_rows
 unfolding next_instant
 last_renewed = record { next = refl; renewed = refl }
 
@@ -73,8 +73,11 @@ none_waits (suc j) i = tt
 all_wait : MayWait racing ten_ticks after_both
 all_wait = record { rows = last_rows; renewed = last_renewed; each = none_waits }
 
+pub both_come : IsKept racing ten_ticks steady_then_slow.events after_both
+both_come = (after_steady, inr steady_comes, (after_both, inr slow_comes, refl))
+
 pub race_is_legal : IsLegal racing ten_ticks steady_then_slow
-race_is_legal = record { kept = after_both; events = (after_steady, inr steady_comes, (after_both, inr slow_comes, refl)); ending = (refl, all_wait) }
+race_is_legal = record { kept = after_both; events = both_come; ending = (refl, all_wait) }
 
 -- ---- draws that agree where they were taken
 

@@ -8,19 +8,19 @@ use Rattle.san_law.specs.Next.{Completes, Stable, TrapsAt, next_instant}
 use Rattle.san_law.specs.Renewal.{Due, FaultAt, renewed_from}
 use Rattle.san_law.specs.State.{gather, slots_of}
 use Rattle.san_law.specs.Step.{End, Ending, Events, Trapped, Unstable, count_limit, limit_at}
-use Rattle.san_legal.specs.Kept.{Kept, KeptState, MayBeDue, bound_of, kept_at, timer_of}
+use Rattle.san_legal.specs.Kept.{KeptTimer, KeptState, MayBeDue, bound_of, kept_at, timer_of}
 use Rattle.san_legal.specs.KeptSteps.{kept_renewed, row_in, state_in, undrawn}
-use Rattle.san_legal.specs.Legal.{IsRenewed, MayFire, fired_at}
+use Rattle.san_legal.specs.Legal.{RenewsTo, MayFire, fired_at}
 
 -- a timer that runs may be due after the horizon
-abbrev pub HasAfter : ℕ → Due → ℕ → ℕ → ActKind → Option Kept → Type 0
+abbrev pub HasAfter : ℕ → Due → ℕ → ℕ → ActKind → Option KeptTimer → Type 0
 HasAfter horizon b j i kind None = Unit {0}
 HasAfter horizon b j i kind (Some x) = (due : ℕ) × MayBeDue b j i kind x due × (horizon < due)
 
 -- the marking is stable, and after its renewal so may each timer
 pub record MayWait (network : Network) (limits : Limits) (k : KeptState) : Type 0 where
   pub rows : List Row
-  pub renewed : IsRenewed network limits k rows
+  pub renewed : RenewsTo network limits k rows
   pub each : (j i : ℕ) → HasAfter limits.horizon (bound_of k) j i (activity_of (part_at network j) i).kind (timer_of (kept_at (kept_renewed (undrawn network limits) k rows) j) i)
 
 -- an instantaneous activity stands next, and a limit stops it

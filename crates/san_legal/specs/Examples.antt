@@ -7,7 +7,7 @@ use Rattle.san_law.specs.Net.{Net, Private, Row}
 use Rattle.san_law.specs.Network.{Limits, Network}
 use Rattle.san_law.specs.Step.{End, Event}
 use Rattle.san_law.specs.Trajectory.{Trajectory}
-use Rattle.san_legal.specs.Kept.{Kept, KeptRow, KeptState}
+use Rattle.san_legal.specs.Kept.{KeptTimer, KeptRow, KeptState}
 use Rattle.san_legal.specs.KeptSteps.{undrawn}
 
 -- after 2 to 4 ticks, it takes the token of its place
@@ -29,7 +29,7 @@ abbrev pub race : Net
 race = undrawn racing ten_ticks
 
 -- both timers were set at the opening
-abbrev pub set_at_opening : Kept
+abbrev pub set_at_opening : KeptTimer
 set_at_opening = record { since = 0; values = 1 ∷ 1 ∷ []; held = false }
 
 abbrev pub both_run : KeptRow

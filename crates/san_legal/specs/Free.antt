@@ -3,7 +3,7 @@ use Rattle.std.specs.Prelude.{ℕ, ◌^◌, ◌≤◌, ◌<◌, ◌≡◌, List,
 use Rattle.san_base.specs.declared.ending.Trap.{Trap}
 use Rattle.san_law.specs.Activity.{ActKind, Activity, Effected, Instant, Timed, activity_of}
 use Rattle.san_law.specs.Network.{Network, part_at}
-use Rattle.san_legal.specs.FreeRuns.{AreApart}
+use Rattle.san_legal.specs.FreeRuns.{HasOwnStreams}
 
 -- delays over all draws
 pub record AreDelays (delay : ℕ → List ℕ → Result ℕ Trap) : Type 0 where
@@ -20,4 +20,4 @@ pub record IsFree (a : Activity) : Type 0 where
 
 pub record IsFreeNetwork (network : Network) : Type 0 where
   pub each : (j i : ℕ) → IsFree (activity_of (part_at network j) i)
-  pub apart : AreApart network
+  pub apart : HasOwnStreams network

@@ -8,7 +8,7 @@ use Rattle.san_legal.specs.Draws.{AreDraws}
 use Rattle.san_legal.specs.Locality.{IsSized}
 
 -- the number of an activity among all tells its leaf and its number there, so that no two have a stream in common
-pub record AreApart (network : Network) : Type 0 where
+pub record HasOwnStreams (network : Network) : Type 0 where
   pub leaf_of : ℕ → ℕ
   pub act_of : ℕ → ℕ
   pub leaf : (j k : ℕ) → k < length (part_at network j).activities → leaf_of ((part_at network j).first + k) ≡ j

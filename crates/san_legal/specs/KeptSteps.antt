@@ -4,14 +4,14 @@ use Rattle.san_law.specs.Net.{Net, Row, Timer}
 use Rattle.san_law.specs.Network.{Limits, Network, net_of}
 use Rattle.san_law.specs.Renewal.{Due}
 use Rattle.san_law.specs.State.{State, gather, opening_state, scatter, slots_of}
-use Rattle.san_legal.specs.Kept.{Kept, KeptRow, KeptState, kept_at, with_rows}
+use Rattle.san_legal.specs.Kept.{KeptTimer, KeptRow, KeptState, kept_at, with_rows}
 
 -- where no draw matters: the net whose draws are all 0
 abbrev pub undrawn : Network → Limits → Net
 undrawn network limits = net_of (λ stream number. 0) network limits
 
 -- a kept timer as one that is due when it was set
-abbrev pub timer_in : Option Kept → Option Timer
+abbrev pub timer_in : Option KeptTimer → Option Timer
 timer_in None = None
 timer_in (Some x) = Some (record { due = x.since; held = x.held })
 
@@ -23,13 +23,13 @@ abbrev pub state_in : KeptState → State
 state_in k = with_rows k (map row_in k.rows)
 
 -- a timer that took a draw in a renewal was set then
-abbrev pub set_by : ℕ → List ℕ → Option Kept → Bool → Option Timer → Option Kept
+abbrev pub set_by : ℕ → List ℕ → Option KeptTimer → Bool → Option Timer → Option KeptTimer
 set_by time values x taken None = None
 set_by time values x false (Some t) = x
 set_by time values x true (Some t) = Some (record { since = time; values = values; held = t.held })
 
 -- a leaf's timers, by the numbers of draws before and after
-abbrev pub set_timers : ℕ → List ℕ → List (Option Kept) → List ℕ → List (Option Timer) → List ℕ → List (Option Kept)
+abbrev pub set_timers : ℕ → List ℕ → List (Option KeptTimer) → List ℕ → List (Option Timer) → List ℕ → List (Option KeptTimer)
 set_timers time values [] ns ts ms = []
 set_timers time values (x ∷ xs) [] ts ms = []
 set_timers time values (x ∷ xs) (n ∷ ns) [] ms = []

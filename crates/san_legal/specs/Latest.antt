@@ -6,8 +6,8 @@ use Rattle.san_expr.specs.Delay.{delay_of}
 use Rattle.san_expr.specs.declared.dist.Dist.{Dist}
 use Rattle.san_law.specs.Activity.{Pair, Timed}
 use Rattle.san_law.specs.Renewal.{Due}
-use Rattle.san_legal.specs.Kept.{HasOne, IsLater, Kept}
+use Rattle.san_legal.specs.Kept.{HasOne, IsLater, KeptTimer}
 
 abbrev pub LatestDecides : Dist → Type 0
-LatestDecides d = IsSoundDelay d → (b : Due) (j i : ℕ) (pair : Option Pair) (x : Kept) (longest : ℕ) → (longest_of d x.values).answer ≡ Ok longest
+LatestDecides d = IsSoundDelay d → (b : Due) (j i : ℕ) (pair : Option Pair) (x : KeptTimer) (longest : ℕ) → (longest_of d x.values).answer ≡ Ok longest
     → HasOne b j i (Timed (λ u v. (delay_of d u v).answer) pair) (Some x) ↔ IsLater b j i (x.since + longest)

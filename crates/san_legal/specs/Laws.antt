@@ -5,13 +5,13 @@ use Rattle.san_law.specs.State.{State, opening_state}
 use Rattle.san_law.specs.Step.{Event}
 use Rattle.san_law.specs.Trajectory.{Runs, Trajectory, followed_by, trajectory}
 use Rattle.san_legal.specs.Draws.{AreDraws}
-use Rattle.san_legal.specs.Kept.{IsWithin, KeptState}
+use Rattle.san_legal.specs.Kept.{StateAgrees, KeptState}
 use Rattle.san_legal.specs.KeptSteps.{kept_opening, undrawn}
 use Rattle.san_legal.specs.Legal.{MayFollow}
 use Rattle.san_legal.specs.Endings.{MayEnd}
 
 -- with some draws a run has these events, and comes to this state
-pub record Reaches (network : Network) (limits : Limits) (es : List Event) (s : State) : Type 0 where
+pub record IsReached (network : Network) (limits : Limits) (es : List Event) (s : State) : Type 0 where
   pub draw : ℕ → ℕ → ℕ
   pub words : AreDraws draw
   pub runs : Runs (net_of draw network limits) (opening_state (net_of draw network limits)) es s
@@ -29,12 +29,12 @@ IsKept network limits es k = MayFollow network limits (kept_opening (undrawn net
 -- the states that some draws reach are those that agree with what is kept, each timer independently with one of its due times
 abbrev pub KeptStatesAreThoseOfRuns : Network → Type 0
 KeptStatesAreThoseOfRuns network = (limits : Limits) (es : List Event) (k : KeptState) → IsKept network limits es k
-    → (s : State) → Reaches network limits es s ↔ IsWithin network k s
+    → (s : State) → IsReached network limits es s ↔ StateAgrees network k s
 
 -- events may come exactly where some draws give them
 abbrev pub LegalEventsAreThoseOfRuns : Network → Type 0
 LegalEventsAreThoseOfRuns network = (limits : Limits) (es : List Event)
-    → ((k : KeptState) × IsKept network limits es k) ↔ ((s : State) × Reaches network limits es s)
+    → ((k : KeptState) × IsKept network limits es k) ↔ ((s : State) × IsReached network limits es s)
 
 -- with some draws a whole run begins with these events
 pub record BeginsRun (network : Network) (limits : Limits) (es : List Event) : Type 0 where

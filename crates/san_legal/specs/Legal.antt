@@ -7,7 +7,7 @@ use Rattle.san_law.specs.Next.{Completes, Stable, next_instant}
 use Rattle.san_law.specs.Renewal.{AllFresh, Due, renewed_from}
 use Rattle.san_law.specs.State.{gather, slots_of}
 use Rattle.san_law.specs.Step.{Event, count_limit, limit_at}
-use Rattle.san_legal.specs.Kept.{HaveSome, Kept, KeptState, MayBeDue, bound_of, kept_at, timer_of}
+use Rattle.san_legal.specs.Kept.{HaveSome, KeptTimer, KeptState, MayBeDue, bound_of, kept_at, timer_of}
 use Rattle.san_legal.specs.KeptSteps.{kept_completed, kept_fired, kept_renewed, row_in, state_in, undrawn}
 
 -- a case that some draw chooses, and what a leaf's activity does with it
@@ -21,7 +21,7 @@ abbrev pub event_by : Network → ℕ → ℕ → ℕ → Effected → Event
 event_by network time j i effect = record { time = time; leaf = j; act = i; case = effect.case; impulses = (activity_of (part_at network j) i).impulses effect.values }
 
 -- the instantaneous activity that stands next completes
-pub record IsInstant (network : Network) (limits : Limits) (k : KeptState) (e : Event) (after : KeptState) : Type 0 where
+pub record InstantMayCome (network : Network) (limits : Limits) (k : KeptState) (e : Event) (after : KeptState) : Type 0 where
   pub next : next_instant (undrawn network limits) (state_in k) ≡ Completes e.leaf e.act
   pub limit : limit_at (undrawn network limits) k.burst k.count ≡ None
   pub effect : Effected
@@ -30,14 +30,14 @@ pub record IsInstant (network : Network) (limits : Limits) (k : KeptState) (e : 
   pub left : after ≡ kept_completed (undrawn network limits) k (k.burst + 1) e.leaf e.act effect.values
 
 -- the marking is stable, and its renewal gives these rows
-pub record IsRenewed (network : Network) (limits : Limits) (k : KeptState) (rows : List Row) : Type 0 where
+pub record RenewsTo (network : Network) (limits : Limits) (k : KeptState) (rows : List Row) : Type 0 where
   pub next : next_instant (undrawn network limits) (state_in k) ≡ Stable
   pub renewed : renewed_from (undrawn network limits) (state_in k) 0 (map row_in k.rows) ≡ AllFresh rows
 
 -- after it a timer may be the first that is due: it may be due at this time within the horizon, and each other one later
 pub record MayFire (network : Network) (limits : Limits) (k : KeptState) (rows : List Row) (d : Due) : Type 0 where
-  pub renewed : IsRenewed network limits k rows
-  pub timer : Kept
+  pub renewed : RenewsTo network limits k rows
+  pub timer : KeptTimer
   pub runs : timer_of (kept_at (kept_renewed (undrawn network limits) k rows) d.leaf) d.act ≡ Some timer
   pub due : MayBeDue (bound_of k) d.leaf d.act (activity_of (part_at network d.leaf) d.act).kind timer d.time
   pub others : HaveSome network d (kept_fired k (kept_renewed (undrawn network limits) k rows) d).rows
@@ -51,7 +51,7 @@ abbrev pub due_in : Event → Due
 due_in e = record { time = e.time; leaf = e.leaf; act = e.act }
 
 -- and its activity completes
-pub record IsTimed (network : Network) (limits : Limits) (k : KeptState) (e : Event) (after : KeptState) : Type 0 where
+pub record TimedMayCome (network : Network) (limits : Limits) (k : KeptState) (e : Event) (after : KeptState) : Type 0 where
   pub rows : List Row
   pub fires : MayFire network limits k rows (due_in e)
   pub limit : count_limit (undrawn network limits) k.count ≡ None
@@ -62,7 +62,7 @@ pub record IsTimed (network : Network) (limits : Limits) (k : KeptState) (e : Ev
 
 -- an event may come, and this is kept after it
 abbrev pub MayCome : Network → Limits → KeptState → Event → KeptState → Type 0
-MayCome network limits k e after = IsInstant network limits k e after ⊎ IsTimed network limits k e after
+MayCome network limits k e after = InstantMayCome network limits k e after ⊎ TimedMayCome network limits k e after
 
 -- one after another
 abbrev pub MayFollow : Network → Limits → KeptState → List Event → KeptState → Type 0
