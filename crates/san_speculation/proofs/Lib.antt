@@ -14,3 +14,7 @@ pub mod Counters
 pub mod Publications
 pub mod Countings
 pub mod Published
+pub mod SnapshotLemmas
+pub mod SmallPieces
+pub mod SmallBooks
+pub mod SmallReads

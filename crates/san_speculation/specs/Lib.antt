@@ -2,4 +2,6 @@ pub mod Speculating
 pub mod CoreCalls
 pub mod Counting
 pub mod Publishing
+pub mod Snapshots
+pub mod Boards
 pub mod inner

@@ -1,2 +1,3 @@
+pub mod Ascending
 pub mod Committing
 pub mod Going

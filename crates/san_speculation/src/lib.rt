@@ -1,6 +1,7 @@
 //! The speculative core: a machine, and the book of what is made ahead of it.
 #![tactic(auto)]
 
+mod board;
 mod booking;
 mod commit;
 mod committing;
@@ -15,10 +16,13 @@ mod reading;
 mod redo;
 mod resuming;
 mod retaking;
+mod snapshot;
 mod speculation;
 mod step;
 
+pub use board::{Board, Closed};
 pub use counting::Counts;
 pub use publishing::Publishing;
+pub use snapshot::Snapshot;
 pub use speculation::Core;
 pub use step::Step;

@@ -1,6 +1,7 @@
 //! What a core tells of itself.
 
 ghost use Rattle.std.specs.Prelude.{◌≡◌, ◌≤◌, ◌+◌, ◌*◌, ◌↔◌, IsTrue, length, map, suc};
+ghost use Rattle.san_base.specs.declared.limits.TheConstants.{MAX_TOKENS};
 ghost use Rattle.san_book.specs.Lines.{seen_at};
 ghost use Rattle.san_book.specs.Nets.{or_zero};
 ghost use Rattle.san_book.specs.declared.limits.TheConstants.{MAX_JOURNAL};
@@ -31,10 +32,13 @@ impl Core {
     }
 
     /// The value of a shared place at a stamp: that of the last version that the stamp sees, or else
-    /// the committed one. Any other place reads as 0.
+    /// the committed one, and a number of tokens. Any other place reads as 0.
     pub fn read(&self, place: PlaceId, stamp: Stamp) -> u32
-        ensures { result ≡ or_zero (seen_at self.now.book.lines stamp place.0) }
+        ensures value { result ≡ or_zero (seen_at self.now.book.lines stamp place.0) }
+        ensures small { result ≤ MAX_TOKENS }
     {
+        self.keeps_the_law();
+        self.machine.network().is_network();
         self.ahead.read(place, stamp)
     }
 
