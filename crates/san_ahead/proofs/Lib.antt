@@ -1,3 +1,4 @@
 pub mod LineLemmas
 pub mod ChainLemmas
 pub mod AheadLemmas
+pub mod NextLemmas

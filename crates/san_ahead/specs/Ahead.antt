@@ -1,5 +1,5 @@
 -- What is made ahead as contracts see it, and what is done to it.
-use Rattle.std.specs.Prelude.{ℕ, suc, ◌≡◌, List, [], ◌∷◌, ◌++◌, map, replicate, take, drop, slice_index, slice_set}
+use Rattle.std.specs.Prelude.{ℕ, suc, ◌≡◌, List, [], ◌∷◌, ◌++◌, map, replicate, take, drop, Option, Some, None, slice_index, slice_set}
 use Rattle.san_book.specs.Chains.{Chain, chain_of, with_piece, without_piece, without_pieces}
 use Rattle.san_book.specs.Cores.{bare_line}
 use Rattle.san_book.specs.Lines.{Line, commit, each}
@@ -66,3 +66,11 @@ pub record TakesOut (old : AheadValue) (j : ℕ) (p : PieceValue) (new : AheadVa
 -- a leaf's chain has a piece, and the last one leaves this state
 abbrev pub EndsWith : AheadValue → ℕ → LeafState → Type 0
 EndsWith a j s = (d : LeafState) → end_from of_piece.end d (chain_of a.chains j) ≡ s
+
+-- the last piece of a chain
+abbrev pub last_or : Option PieceValue → Chain PieceValue → Option PieceValue
+last_or o [] = o
+last_or o (x ∷ xs) = last_or (Some x.1) xs
+
+abbrev pub last_of : Chain PieceValue → Option PieceValue
+last_of xs = last_or None xs

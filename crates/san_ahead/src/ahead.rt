@@ -1,24 +1,28 @@
 //! What is made ahead of the committed time.
 
-ghost use Rattle.std.specs.Prelude.{◌≡◌, ◌≤◌, ◌<◌, ◌+◌, ◌^◌, [], ℕ, IfErr, IfOk, None, OnOk, length, map, replicate, slice_index};
+ghost use Rattle.std.specs.Prelude.{◌≡◌, ◌≤◌, ◌<◌, ◌+◌, ◌^◌, [], ℕ, IfErr, IfOk, None, OnOk, Some, length, map, replicate, slice_index};
 ghost use Rattle.std.specs.Option.{MatchOption};
-ghost use Rattle.san_ahead.specs.Ahead.{EndsWith, Heads, TakesOut, cut_from, nothing, pushed, raised, with_committed};
+ghost use Rattle.san_ahead.specs.Ahead.{EndsWith, Heads, TakesOut, cut_from, last_of, nothing, pushed, raised, with_committed};
 ghost use Rattle.san_ahead.specs.Aheads.{line_in};
 ghost use Rattle.san_book.specs.Chains.{AllFit, chain_of, current};
 ghost use Rattle.san_book.specs.Cores.{bare_line};
 ghost use Rattle.san_book.specs.Lines.{AreWrites, line_of, seen_at};
-ghost use Rattle.san_book.specs.Nets.{or_zero};
+ghost use Rattle.san_book.specs.Nets.{or_zero, shared_in};
+ghost use Rattle.san_book.specs.Plans.{next_version};
 ghost use Rattle.san_chain.specs.Chains.{GoesOn, end_of};
 ghost use Rattle.san_decide.specs.Booked.{of_piece};
 ghost use Rattle.san_leaf.specs.States.{pair_in};
 ghost use Rattle.san_line.specs.Lines.{find};
+ghost use Rattle.san_net.specs.Leaf.{slot_in};
 
-use crate::chains::{current_pieces, cut_chain, push_piece};
+use crate::chains::{current_pieces, cut_chain, last_piece, push_piece};
 use crate::lines::{commit_writes, withdraw_writes};
-use san_base::{LeafId, NoMemory, PlaceId, Stamp};
+use crate::next::next_version;
+use san_base::{LeafId, NoMemory, PlaceId, Stamp, Tick};
 use san_chain::Chain;
 use san_leaf::{LeafState, Piece};
 use san_line::Line;
+use san_net::Slot;
 use std::alloc::Global;
 use std::marker::Model;
 
@@ -183,6 +187,31 @@ impl Ahead {
         ensures { MatchOption result (chain_of self.now.chains leaf.0 ≡ []) (λ s. EndsWith self.now leaf.0 s.now) }
     {
         self.chains[leaf.0 as usize].end()
+    }
+
+    /// The last piece of a leaf.
+    pub fn last(&self, leaf: LeafId) -> Option<&Piece>
+        requires { leaf.0 < length self.now.chains }
+        ensures { MatchOption result (chain_of self.now.chains leaf.0 ≡ []) (λ p. last_of (chain_of
+            self.now.chains leaf.0) ≡ Some p.now) }
+    {
+        last_piece(&self.chains[leaf.0 as usize])
+    }
+
+    /// The number of a leaf's next piece.
+    pub fn number(&self, leaf: LeafId) -> u64
+        requires { leaf.0 < length self.now.counters }
+        ensures { result ≡ slice_index self.now.counters leaf.0 }
+    {
+        self.counters[leaf.0 as usize]
+    }
+
+    /// The least time and leaf of the versions above a time by other leaves, over the shared ones of
+    /// some cells.
+    pub fn next_version(&self, leaf: LeafId, after: Tick, slots: &[Slot]) -> Option<(u64, u32)>
+        ensures { result ≡ next_version self.now.lines leaf.0 after.0 (shared_in (map slot_in slots.now)) }
+    {
+        next_version(&self.lines, leaf, after, slots)
     }
 
     /// Pushes a piece of a leaf, from whose end it goes on, with the leaf's next number, and puts its

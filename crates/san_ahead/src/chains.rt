@@ -1,6 +1,8 @@
 //! The chain of a leaf, beside the lines that its pieces wrote.
 
-ghost use Rattle.std.specs.Prelude.{◌≡◌, ◌≤◌, ◌<◌, ◌++◌, ◌∷◌, [], ℕ, IfErr, None, OnOk, drop, length, map, slice_index_or, take};
+ghost use Rattle.std.specs.Prelude.{◌≡◌, ◌≤◌, ◌<◌, ◌++◌, ◌∷◌, [], ℕ, IfErr, None, OnOk, Some, drop, length, map, slice_index_or, take};
+ghost use Rattle.std.specs.Option.{MatchOption};
+ghost use Rattle.san_ahead.specs.Ahead.{last_of};
 ghost use Rattle.san_ahead.specs.Aheads.{line_in, no_line};
 ghost use Rattle.san_book.specs.Chains.{AllFit, current, is_current, with_piece, without_pieces};
 ghost use Rattle.san_book.specs.Lines.{AreWrites};
@@ -17,7 +19,7 @@ use san_leaf::Piece;
 use san_line::Line;
 
 /// Whether a piece sees what others write at its time.
-fn sees_all(kind: Kind) -> bool
+pub fn sees_all(kind: Kind) -> bool
     ensures { (first : ℕ) → result ≡ sees_all (kind_in first kind) }
 {
     match kind {
@@ -71,6 +73,20 @@ pub fn cut_chain(lines: &mut [Line], leaf: LeafId, chain: &mut Chain<Piece>, fro
         withdraw_writes(lines, leaf, pos, &piece.outcome().writes);
     }
     chain.cut(from);
+}
+
+/// The last piece of a chain.
+pub(crate) fn last_piece(chain: &Chain<Piece>) -> Option<&Piece>
+    ensures { MatchOption result (chain.now.pieces ≡ []) (λ p. last_of chain.now.pieces ≡ Some p.now) }
+{
+    let count = chain.len();
+    if count == 0 {
+        return None;
+    }
+    let Some(last) = chain.at(count - 1) else {
+        unreachable!()
+    };
+    Some(last.1)
 }
 
 /// Pushes a piece onto a leaf's chain, from whose end it goes on, and puts its versions into the

@@ -5,7 +5,8 @@
 mod ahead;
 mod chains;
 mod lines;
+mod next;
 
 pub use ahead::Ahead;
-pub use chains::{current_pieces, cut_chain, push_piece};
+pub use chains::{current_pieces, cut_chain, push_piece, sees_all};
 pub use lines::{commit_writes, put_writes, reserve_writes, withdraw_writes};

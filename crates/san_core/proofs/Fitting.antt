@@ -34,11 +34,11 @@ use Rattle.san_law.proofs.Renewals.{bare_timers}
 use Rattle.san_net.proofs.SmallLemmas.{gather_small}
 
 -- the least timer is one that stands
-record IsTimer (a : ℕ) (ts : List (Option Timer)) (x : ℕ × ℕ) : Type 0 where
-  index : ℕ
-  act : x.1 ≡ a + index
-  timer : Timer
-  at : slice_get ts index ≡ Some (Some timer)
+pub record IsTimer (a : ℕ) (ts : List (Option Timer)) (x : ℕ × ℕ) : Type 0 where
+  pub index : ℕ
+  pub act : x.1 ≡ a + index
+  pub timer : Timer
+  pub at : slice_get ts index ≡ Some (Some timer)
 
 timer_later : (a : ℕ) (t : Option Timer) (ts : List (Option Timer)) (x : ℕ × ℕ) → IsTimer (suc a) ts x → IsTimer a (t ∷ ts) x
 timer_later a t ts x h = record { index = suc h.index; act = omega (arith, h.act); timer = h.timer; at = h.at }
@@ -63,7 +63,7 @@ least_at a [] x is = absurd cc
 least_at a (None ∷ ts) x is = timer_later a None ts x (least_at (suc a) ts x is)
 least_at a (Some t ∷ ts) x is = timer_by a t ts x (least_timer_from (suc a) ts) (λ e. least_at (suc a) ts x e) is
 
-row_least : (r : Row) (x : ℕ × ℕ) → least_timer r ≡ Some x → IsTimer 0 r.timers x
+pub row_least : (r : Row) (x : ℕ × ℕ) → least_timer r ≡ Some x → IsTimer 0 r.timers x
 unfolding least_timer
 row_least r x is = least_at 0 r.timers x is
 
@@ -72,7 +72,7 @@ abbrev kind_or : Option Named → ActKind
 kind_or None = kind.Instant 0
 kind_or (Some x) = x.1.kind
 
-paired_some : (terms : List ImpulseTerm) (k : ℕ) (acts : List Named) (i : ℕ) (a : Named) → slice_get acts i ≡ Some a → IsPaired a.1.kind → some_pair (net.activities_from terms k acts) ≡ true
+pub paired_some : (terms : List ImpulseTerm) (k : ℕ) (acts : List Named) (i : ℕ) (a : Named) → slice_get acts i ≡ Some a → IsPaired a.1.kind → some_pair (net.activities_from terms k acts) ≡ true
 paired_some terms k [] i a is p = absurd cc
 paired_some terms k (b ∷ acts) zero a is p = first_by b.1.kind (subst IsPaired (sym (ap kind_or is)) p)
   where
@@ -148,7 +148,7 @@ module _ (n : Network) (network : IsNetwork n) (draw : ℕ → ℕ → ℕ) (lim
     safe : Safe n s.count s.count s.marking s.rows
     safe = run_safe n draw limits (opening_state here) s (past ++ c.events) st.runs opening_safe
 
-    count_few : s.count ≤ MAX_EVENTS
+    pub count_few : s.count ≤ MAX_EVENTS
     count_few = let r = runs_within here (opening_state here) s (past ++ c.events) st.runs in omega (arith, r.0, r.1, few)
 
     module _ (j : ℕ) (p : Part) (is : slice_get n.parts j ≡ Some p) where
@@ -164,7 +164,7 @@ module _ (n : Network) (network : IsNetwork n) (draw : ℕ → ℕ → ℕ) (lim
       places_long : length (slots_of here j) ≡ length p.atomic.initial
       places_long = length-map (part_of here j) place_of ∙ (ap (λ (ss : List Slot). length ss) part_here ∙ (length-map p.slots net.slot_in ∙ (network.slotted j p is).each))
 
-      paired_is : here.paired j ≡ some_pair (net.leaf_of p).activities
+      pub paired_is : here.paired j ≡ some_pair (net.leaf_of p).activities
       paired_is = ap (λ (q : leaf.Part). some_pair q.activities) (part_is n.parts j p is)
 
       -- what a leaf has seen
@@ -189,7 +189,7 @@ module _ (n : Network) (network : IsNetwork n) (draw : ℕ → ℕ → ℕ) (lim
           by_case (inl lt) = kept_seen (here.paired j) (gather (slots_of here j) s.marking) refl (st.holds.fresh j within (below_upto here c.order j lt)).seen (values_long s.marking)
           by_case (inr le) = served_seen (st.upto.waits j within le).seen
 
-      row_here : RowFits (suc s.count) s.count p.atomic.acts l.row
+      pub row_here : RowFits (suc s.count) s.count p.atomic.acts l.row
       row_here = by_case (cases_lt j (upto here c.order))
         where
           by_case : (j < upto here c.order) ⊎ (upto here c.order ≤ j) → RowFits (suc s.count) s.count p.atomic.acts l.row

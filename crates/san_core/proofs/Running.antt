@@ -26,9 +26,9 @@ abbrev left_by : Local → Result Done Trap → Local
 left_by l (Ok d) = d.left
 left_by l (Err t) = l
 
-record Leaves (l : Local) (k : ℕ) (d : Done) : Type 0 where
-  small : IsMarking l.values → IsMarking d.left.values
-  row : leaf.with_case l.row k ≡ d.left.row
+pub record Leaves (l : Local) (k : ℕ) (d : Done) : Type 0 where
+  pub small : IsMarking l.values → IsMarking d.left.values
+  pub row : leaf.with_case l.row k ≡ d.left.row
 
 done_leaves : (l : Local) (k : ℕ) (a : leaf.Activity) (x : Result leaf.Effected Trap) (d : Done) → KeepsValues l.values x → leaf.done_by l.row k a x ≡ Ok d → Leaves l k d
 done_leaves l k a (Err t) d keeps is = absurd cc
@@ -59,7 +59,7 @@ module _ (n : Network) (draw : ℕ → ℕ → ℕ) (limits : Limits) where
   abbrev IsSafe : ℕ → State → Type 0
   IsSafe d s = Safe n d s.count s.marking s.rows
 
-  done_is : (j k : ℕ) (l : Local) (d : Done) → net.done j k l ≡ Ok d → Leaves l k d
+  pub done_is : (j k : ℕ) (l : Local) (d : Done) → net.done j k l ≡ Ok d → Leaves l k d
   done_is j k l d is =
       let part = slice_index_or (map leaf_of n.parts) j no_part in
       let u = draw (leaf.case_stream part k) (slice_index l.row.cases k) in

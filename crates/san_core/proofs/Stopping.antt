@@ -29,9 +29,17 @@ use Rattle.san_core.specs.declared.over.Halt.{Halt}
 use Rattle.san_core.specs.declared.over.Over.{Over}
 use Rattle.san_core.specs.declared.over.Over.TheVariants as over
 use Rattle.san_core.specs.inner.Admits.{over_in}
-use Rattle.san_core.specs.inner.Held.{committed_by, stop_in}
+use Rattle.san_core.specs.inner.Held.{committed_by, order_at, stop_in}
 use Rattle.san_core.specs.inner.Needed.{need_given}
 use Rattle.san_core.specs.inner.Stops.{HaltIsNamed, TrapsAmong, TrapsIn, ended_in, ending_by, stopped_by}
+
+-- a part that goes on has the order's own time
+pub order_is : (leaves : List LeafState) (shared : List ℕ) (order : OrderValue) (running : Running) (burst count : ℕ) (halt : Option Halt) (v : CommittedValue) → committed_by leaves shared order running burst count halt ≡ v → v.core.stop ≡ None → order.order ≡ v.core.order
+order_is leaves shared order running burst count halt v is stop = by_halt halt (ap (λ (x : CommittedValue). x.core.stop) is ∙ stop) ∙ ap (λ (x : CommittedValue). x.core.order) is
+  where
+    by_halt : (h : Option Halt) → stop_in h ≡ None → order.order ≡ order_at order.order h
+    by_halt None e = refl
+    by_halt (Some x) e = absurd (cc)
 
 -- a part that goes on has no numbers to keep
 pub none_named : (firsts : List ℕ) (h : Option Halt) → stop_in h ≡ None → HaltIsNamed firsts h

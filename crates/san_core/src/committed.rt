@@ -112,6 +112,13 @@ impl Committed {
         self.order.time()
     }
 
+    /// The order, where the core goes on.
+    pub(crate) fn order(&self) -> &Order
+        ensures { self.now.core.stop ≡ None → result.now.order ≡ self.now.core.order }
+    {
+        &self.order
+    }
+
     /// The start from which a core goes on that hasn't stopped.
     pub(crate) fn into_start(self) -> Start
         requires { self.core.stop ≡ None }

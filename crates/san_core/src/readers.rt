@@ -1,6 +1,6 @@
 //! What a machine holds, and whose run it follows.
 
-ghost use Rattle.std.specs.Prelude.{◌≡◌, ◌<◌, ◌↔◌, IsTrue, length};
+ghost use Rattle.std.specs.Prelude.{◌≡◌, ◌<◌, ◌↔◌, IsTrue, None, length};
 ghost use Rattle.san_law.specs.Core.{leaf_of};
 
 use crate::machine::Machine;
@@ -8,6 +8,7 @@ use crate::start::Start;
 use san_base::{LeafId, Limits, Shared, all_same};
 use san_leaf::{LeafState, same_state};
 use san_net::Flat;
+use san_turn::Order;
 
 /// Whether two lists have the same states.
 fn same_states(a: &[Shared<LeafState>], b: &[Shared<LeafState>]) -> bool
@@ -80,6 +81,14 @@ impl Machine {
         ensures { result.now ≡ leaf_of self.now.held.core leaf.0 }
     {
         &self.held.leaves[leaf.0 as usize]
+    }
+
+    /// The order of needs, while the run goes on.
+    pub fn order(&self) -> &Order
+        requires { self.now.held.core.stop ≡ None }
+        ensures { result.now.order ≡ self.now.held.core.order }
+    {
+        self.held.order()
     }
 
     /// Whether it follows the run of a network with a seed and limits, from this start on.
