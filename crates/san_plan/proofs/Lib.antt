@@ -1,0 +1,5 @@
+pub mod Waited
+pub mod Planned
+pub mod Rows
+pub mod Values
+pub mod Ends
