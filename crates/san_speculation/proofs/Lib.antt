@@ -18,3 +18,5 @@ pub mod SnapshotLemmas
 pub mod SmallPieces
 pub mod SmallBooks
 pub mod SmallReads
+pub mod Claimings
+pub mod ClaimSteps

@@ -75,6 +75,12 @@ module _ (m : MachineValue) (follows : FollowsRun m) (a : AheadValue) where
   pub ended_here : next_piece (net_in m) h ≡ None → (c : book.Core law.Core PieceValue) → has_ended (book_in m) m.limits (with_parts m a c) ≡ true
   ended_here none c = ended_by_stop (net_in m) h h.stop none
 
+  pub none_goes : next_piece (net_in m) h ≡ None → (c : book.Core law.Core PieceValue) → goes_on (book_in m) m.limits (with_parts m a c) ≡ false
+  none_goes none c = ended_not ended (is_full m) (ended_by_stop (net_in m) h h.stop none)
+
+  pub full_goes : is_full m ≡ true → (c : book.Core law.Core PieceValue) → goes_on (book_in m) m.limits (with_parts m a c) ≡ false
+  full_goes full c = full_not ended (is_full m) full
+
   pub none_when_full : is_full m ≡ true → NoneNext m a
   none_when_full full c = none_going (book_in m) m.limits (with_parts m a c) (full_not ended (is_full m) full)
 

@@ -1,5 +1,6 @@
 pub mod Speculating
 pub mod CoreCalls
+pub mod Claims
 pub mod Counting
 pub mod Publishing
 pub mod Snapshots

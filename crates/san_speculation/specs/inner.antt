@@ -1,3 +1,4 @@
 pub mod Ascending
 pub mod Committing
 pub mod Going
+pub mod Claiming

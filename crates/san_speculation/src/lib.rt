@@ -3,6 +3,8 @@
 
 mod board;
 mod booking;
+mod claim;
+mod claiming;
 mod commit;
 mod committing;
 mod counting;
