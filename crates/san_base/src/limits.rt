@@ -53,6 +53,9 @@ pub const MAX_ROLLBACKS: u64 = 1_000_000;
 /// The greatest value, and with a minus the least, at which a reward's term is no fault.
 pub const MAX_RATED: u64 = 1_000_000_000;
 
+/// More than any sum of a reward's terms comes to, with either sign: 2^96.
+pub const MAX_WORTH: u128 = 79_228_162_514_264_337_593_543_950_336;
+
 /// The most impulses of one completion: 16 terms for each of 64 rewards.
 pub const MAX_EVENT_IMPULSES: u64 = 1_024;
 

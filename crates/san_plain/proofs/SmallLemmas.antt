@@ -1,7 +1,7 @@
 -- The worths of a run are small: the impulses of its events are values of terms, and they are few.
 use Rattle.std.proofs.Common.{ℕ, zero, suc, ◌*◌, ◌≤◌, ◌≡◌, ◌∙◌, sym, refl, subst, arith, List, [], ◌∷◌, ◌++◌, All, filter, map, Option, Some, Bool, true, false, cond, nat_eq, slice_index_or}
 use Rattle.san_base.specs.declared.ending.Ending.{Ending}
-use Rattle.san_base.specs.declared.limits.TheConstants.{MAX_EVENTS, MAX_RATED}
+use Rattle.san_base.specs.declared.limits.TheConstants.{MAX_EVENTS, MAX_EVENT_IMPULSES, MAX_RATED}
 use Rattle.san_draw.specs.Key.{draw_of}
 use Rattle.san_expr.specs.Value.{value_of}
 use Rattle.san_law.proofs.Orders.{runs_append}
@@ -95,7 +95,7 @@ worths_small (x ∷ xs) r w h zero = h r
 worths_small (x ∷ xs) r w h (suc q) = worths_small xs (suc r) w h q
 
 module _ (o : Opened) (es : List step.Event) (s : State) (c : CountedRun) (st : RunStands o es s c) (e : Ending) (new : CountedRun) (ends : Ends o s e c new) where
-  few : tally.impulses_in es ≤ MAX_EVENTS * 1024
+  few : tally.impulses_in es ≤ MAX_EVENTS * MAX_EVENT_IMPULSES
   few =
       let net = net_by o in
       let each = runs_few net (lawful o.network st.known (draw_of o.seed) (limits_in o.limits)) (opening_state net) s es st.runs in

@@ -1,6 +1,7 @@
 -- What a run comes to without its report.
-use Rattle.std.specs.Prelude.{ℕ, suc, ◌≤◌, ◌^◌, List, [], ◌∷◌, Option, None, Some, slice_index_or, unsigned_abs}
+use Rattle.std.specs.Prelude.{ℕ, suc, ◌≤◌, List, [], ◌∷◌, Option, None, Some, slice_index_or, unsigned_abs}
 use Rattle.std.specs.Option.{option_map}
+use Rattle.san_base.specs.declared.limits.TheConstants.{MAX_WORTH}
 use Rattle.san_base.specs.declared.ending.Ending.{Ending}
 use Rattle.san_law.specs.Net.{Net}
 use Rattle.san_law.specs.State.{opening_state}
@@ -29,10 +30,10 @@ measured_by n net t = record { ending = ending_in n t.time t.ending; worths = wo
 abbrev pub measured_of : Opened → Option Measured
 measured_of o = option_map (measured_by o.network (net_by o)) (trajectory (net_by o) (opening_state (net_by o)))
 
--- a sum within 2^96 either way, or none
+-- a sum within MAX_WORTH either way, or none
 abbrev pub IsSmallSum : Option Worth → Type 0
-IsSmallSum (Some (worth.Sum x)) = unsigned_abs x ≤ 2 ^ 96
-IsSmallSum (Some (worth.Mean x ticks)) = unsigned_abs x ≤ 2 ^ 96
+IsSmallSum (Some (worth.Sum x)) = unsigned_abs x ≤ MAX_WORTH
+IsSmallSum (Some (worth.Mean x ticks)) = unsigned_abs x ≤ MAX_WORTH
 IsSmallSum w = Unit {0}
 
 -- so that the sums of many runs are summed in 128 bits

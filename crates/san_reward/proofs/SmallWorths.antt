@@ -1,11 +1,11 @@
 -- The worths of a network's rewards are small.
-use Rattle.std.proofs.Common.{ℕ, zero, suc, ◌+◌, ◌-◌, ◌*◌, ◌^◌, ◌<◌, ◌≤◌, ◌≡◌, refl, List, [], ◌∷◌, arith, Option, Some, None, Result, Ok, Err, nat_eq, nat_le, nat_lt, Bool, true, false, length, map, slice_index_or}
+use Rattle.std.proofs.Common.{ℕ, zero, suc, ◌+◌, ◌-◌, ◌*◌, ◌<◌, ◌≤◌, ◌≡◌, refl, List, [], ◌∷◌, arith, Option, Some, None, Result, Ok, Err, nat_eq, nat_le, nat_lt, Bool, true, false, length, map, slice_index_or}
 use Rattle.std.specs.Prelude.{ℤ, pos, negsuc, unsigned_abs, All, if◌then◌else◌, slice_get}
 use Rattle.std.proofs.lemmas.Bool.{leb-true, ltb-true}
 use Rattle.std.proofs.lemmas.List.{length-map}
 use Rattle.san_base.specs.Rated.{in_bounds, rated_by}
 use Rattle.san_base.specs.declared.ending.Trap.{Trap}
-use Rattle.san_base.specs.declared.limits.TheConstants.{MAX_EVENTS, MAX_HORIZON, MAX_LEAVES, MAX_RATED}
+use Rattle.san_base.specs.declared.limits.TheConstants.{MAX_EVENTS, MAX_EVENT_IMPULSES, MAX_HORIZON, MAX_LEAVES, MAX_RATED, MAX_WORTH}
 use Rattle.san_expr.specs.Value.{value_of}
 use Rattle.san_law.specs.Net.{Impulse, Net, Rated, Slot, Span}
 use Rattle.san_law.specs.Network.{Limits, no_part}
@@ -120,18 +120,18 @@ module _ (net : Net) (r : ℕ) where
         wider (terms_in r (net.terms i) * MAX_RATED + length ps * (16 * MAX_RATED)) (length (p ∷ ps) * (16 * MAX_RATED)) (rates_sum net r i (ws ∷ rest)) (omega (arith, one))
         (sum_at_most (terms_in r (net.terms i) * MAX_RATED) (length ps * (16 * MAX_RATED)) (leaf_sum r (net.terms i) ws) (rates_sum net r (suc i) rest) (leaf_small r (net.terms i) ws (rated i (gather (map place_of p) m))) (rates_small (suc i) ps m))
 
-    sum_small : (opening : State) (es : List Event) → length net.parts ≤ MAX_LEAVES → (span_of net r).to ≤ MAX_HORIZON + 1 → impulses_in es ≤ MAX_EVENTS * 1024 → AreRated es → IsAtMost (2 ^ 96) (reward_sum net r opening es)
+    sum_small : (opening : State) (es : List Event) → length net.parts ≤ MAX_LEAVES → (span_of net r).to ≤ MAX_HORIZON + 1 → impulses_in es ≤ MAX_EVENTS * MAX_EVENT_IMPULSES → AreRated es → IsAtMost MAX_WORTH (reward_sum net r opening es)
     sum_small opening es leaves low given h =
         let s = span_of net r in
         let n = s.to - s.from in
         let f = marked_sum net r opening es in
         let tick : (t : ℕ) → IsAtMost (MAX_LEAVES * (16 * MAX_RATED)) (f t) =
         λ t. wider (length net.parts * (16 * MAX_RATED)) (MAX_LEAVES * (16 * MAX_RATED)) (f t) (omega (arith, leaves)) (rates_small 0 net.parts (marked net opening es t)) in
-        wider (n * (MAX_LEAVES * (16 * MAX_RATED)) + impulses_in es * MAX_RATED) (2 ^ 96) (reward_sum net r opening es) (omega (arith, low, given))
+        wider (n * (MAX_LEAVES * (16 * MAX_RATED)) + impulses_in es * MAX_RATED) MAX_WORTH (reward_sum net r opening es) (omega (arith, low, given))
         (sum_at_most (n * (MAX_LEAVES * (16 * MAX_RATED))) (impulses_in es * MAX_RATED) (sum_ticks f s.from n) (events_sum net r es) (ticks_small f (MAX_LEAVES * (16 * MAX_RATED)) tick s.from n) (events_small es h))
 
 -- what a small sum is worth
-sum_worth_small : (s : Span) (w : Rated) → IsAtMost (2 ^ 96) w → IsSmallWorth (sum_worth s w)
+sum_worth_small : (s : Span) (w : Rated) → IsAtMost MAX_WORTH w → IsSmallWorth (sum_worth s w)
 sum_worth_small s None h = tt
 sum_worth_small s (Some x) h = by_mean s.mean
   where
@@ -139,7 +139,7 @@ sum_worth_small s (Some x) h = by_mean s.mean
     by_mean true = h
     by_mean false = h
 
-worth_by_small : (horizon : ℕ) (s : Span) (w : Rated) → IsAtMost (2 ^ 96) w → IsSmallWorth (law.worth_by horizon s w)
+worth_by_small : (horizon : ℕ) (s : Span) (w : Rated) → IsAtMost MAX_WORTH w → IsSmallWorth (law.worth_by horizon s w)
 worth_by_small horizon s w h = by_end (nat_lt (horizon + 1) s.to)
   where
     by_end : (b : Bool) → IsSmallWorth (if b then Beyond else sum_worth s w)
@@ -151,7 +151,7 @@ span_small [] r h = omega arith
 span_small (s ∷ ss) zero h = h 0 no_span (omega arith)
 span_small (s ∷ ss) (suc r) h = span_small ss r (λ k d l. h (suc k) d (omega (arith, l)))
 
-pub small_worth : (n : Network) (draw : ℕ → ℕ → ℕ) (limits : Limits) (opening : State) (es : List Event) (r : ℕ) → IsNetwork n → impulses_in es ≤ MAX_EVENTS * 1024 → AreRated es → IsSmallWorth (worth (net_of n draw limits) r opening es)
+pub small_worth : (n : Network) (draw : ℕ → ℕ → ℕ) (limits : Limits) (opening : State) (es : List Event) (r : ℕ) → IsNetwork n → impulses_in es ≤ MAX_EVENTS * MAX_EVENT_IMPULSES → AreRated es → IsSmallWorth (worth (net_of n draw limits) r opening es)
 small_worth n draw limits opening es r is given h =
     let net = net_of n draw limits in
     let few = few_at r n.parts (λ k p e. (let a = (is.accepted k p e).terms r in let b = few_in r (map (λ t. t.reward) p.atomic.rates) (map (λ t. t.reward) p.atomic.impulses) in omega (arith, a, b))) in

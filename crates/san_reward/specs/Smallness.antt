@@ -1,6 +1,6 @@
 -- How great a worth may be.
-use Rattle.std.specs.Prelude.{ℕ, ◌≤◌, ◌^◌, unsigned_abs, All, List, [], ◌∷◌, None, Some}
-use Rattle.san_base.specs.declared.limits.TheConstants.{MAX_RATED}
+use Rattle.std.specs.Prelude.{ℕ, ◌≤◌, unsigned_abs, All, List, [], ◌∷◌, None, Some}
+use Rattle.san_base.specs.declared.limits.TheConstants.{MAX_RATED, MAX_WORTH}
 use Rattle.san_law.specs.Reward.{Beyond, Faulted, Mean, Sum, Worth}
 use Rattle.san_law.specs.Step.{Event}
 use Rattle.san_law.specs.Net.{Rated}
@@ -17,7 +17,7 @@ AreRated (e ∷ es) = All (λ i. IsAtMost MAX_RATED i.rated) e.impulses × AreRa
 
 -- so that many of them are summed in 128 bits
 abbrev pub IsSmallWorth : Worth → Type 0
-IsSmallWorth (Sum sum) = unsigned_abs sum ≤ 2 ^ 96
-IsSmallWorth (Mean sum ticks) = unsigned_abs sum ≤ 2 ^ 96
+IsSmallWorth (Sum sum) = unsigned_abs sum ≤ MAX_WORTH
+IsSmallWorth (Mean sum ticks) = unsigned_abs sum ≤ MAX_WORTH
 IsSmallWorth Faulted = Unit {0}
 IsSmallWorth Beyond = Unit {0}

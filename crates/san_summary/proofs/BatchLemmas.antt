@@ -1,8 +1,9 @@
 -- What some runs come to, and further runs.
-use Rattle.std.proofs.Common.{ℕ, zero, suc, ◌+◌, ◌^◌, ◌≤◌, ◌<◌, ◌≡◌, ◌∙◌, ap, sym, refl, arith, List, [], ◌∷◌, ◌++◌, length, All, Option, Some, None, Bool, true, false, cond, slice_index_or, replicate, count_by, length-append}
+use Rattle.std.proofs.Common.{ℕ, zero, suc, ◌+◌, ◌≤◌, ◌<◌, ◌≡◌, ◌∙◌, ap, sym, refl, arith, List, [], ◌∷◌, ◌++◌, length, All, Option, Some, None, Bool, true, false, cond, slice_index_or, replicate, count_by, length-append}
 use Rattle.std.specs.Prelude.{ℤ, unsigned_abs}
 use mir.Val.{bool_byte}
 use Rattle.std.proofs.lemmas.List.Sums.{sum_by-append}
+use Rattle.san_base.specs.declared.limits.TheConstants.{MAX_WORTH}
 use Rattle.san_summary.specs.Batches.{AreSmall, CanAdd, CanJoin, IsSmallNumber, Outcome, Sums, numbers_at, summaries, sums_of, with_number}
 use Rattle.san_summary.specs.Summaries.{summary_of}
 use Rattle.san_summary.specs.declared.batch.TheConstants.{MAX_RUNS}
@@ -111,7 +112,7 @@ numbers_few r [] = omega arith
 numbers_few r (o ∷ os) = few_by (slice_index_or o.numbers r None) (numbers_at r os) (length os) (numbers_few r os)
 
 abbrev Small : ℤ → Type 0
-Small x = unsigned_abs x ≤ 2 ^ 96
+Small x = unsigned_abs x ≤ MAX_WORTH
 
 small_by : (x : Option ℤ) (xs : List ℤ) → IsSmallNumber x → All Small xs → All Small (with_number x xs)
 small_by None xs k h = h

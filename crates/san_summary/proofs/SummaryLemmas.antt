@@ -1,10 +1,13 @@
 -- Summaries of lists, put together.
-use Rattle.std.proofs.Common.{ℕ, suc, ◌+◌, ◌*◌, ◌^◌, ◌≤◌, ◌≡◌, ◌∙◌, ap, sym, subst, refl, ◌||◌, arith, List, [], ◌∷◌, ◌++◌, length, map, All, Option, Some, None, Bool, true, false, cond, length-append}
+use Rattle.std.proofs.Common.{ℕ, suc, ◌+◌, ◌*◌, ◌≤◌, ◌≡◌, ◌∙◌, ap, sym, subst, refl, ◌||◌, arith, List, [], ◌∷◌, ◌++◌, length, map, All, Option, Some, None, Bool, true, false, cond, length-append}
 use Rattle.std.specs.Prelude.{ℤ, pos, ◌+ℤ◌, ◌*ℤ◌, unsigned_abs}
 use Rattle.std.specs.List.{list_any}
 use Rattle.std.specs.Int.{int_min, int_max}
 use Rattle.std.proofs.lemmas.Int.{ints, clamps, unsigned_abs-mul}
 use Rattle.std.proofs.lemmas.Bool.{ltb-false}
+use Rattle.san_summary.specs.declared.batch.TheConstants.{MAX_RUNS}
+use Rattle.san_summary.specs.declared.summary.TheConstants.{MAX_SQUARED}
+use Rattle.san_base.specs.declared.limits.TheConstants.{MAX_WORTH}
 use Rattle.san_summary.specs.declared.summary.Summary.{Summary}
 use Rattle.san_summary.specs.declared.summary.Squares.{Squares}
 use Rattle.san_summary.specs.declared.summary.Squares.TheVariants as squares
@@ -98,21 +101,21 @@ joined_none s =
     made count sum (squares_last s.squares) (lesser_last s.least) (greater_last s.greatest)
 
 -- a summary of small numbers is small
-total_small : (xs : List ℤ) → All (λ x. unsigned_abs x ≤ 2 ^ 96) xs → unsigned_abs (total xs) ≤ length xs * 2 ^ 96
+total_small : (xs : List ℤ) → All (λ x. unsigned_abs x ≤ MAX_WORTH) xs → unsigned_abs (total xs) ≤ length xs * MAX_WORTH
 total_small [] h = omega arith
 total_small (x ∷ xs) h =
-    let one : unsigned_abs x ≤ 2 ^ 96 = h 0 x (omega arith) in
+    let one : unsigned_abs x ≤ MAX_WORTH = h 0 x (omega arith) in
     let more = total_small xs (λ k d l. h (suc k) d (omega (arith, l))) in
     omega (arith, ints, one, more)
 
 product_small : (a b : ℕ) → a ≤ b → a * a ≤ b * b
 product_small a b h = grind (arith, h)
 
-square_small : (x : ℤ) → is_wide x ≡ false → unsigned_abs (x *ℤ x) ≤ 10000000000000000000000000000000000
+square_small : (x : ℤ) → is_wide x ≡ false → unsigned_abs (x *ℤ x) ≤ MAX_SQUARED * MAX_SQUARED
 square_small x h =
     let e = unsigned_abs-mul x x in
-    let l : unsigned_abs x ≤ 100000000000000000 = ltb-false 100000000000000000 (unsigned_abs x) h in
-    let p = product_small (unsigned_abs x) 100000000000000000 l in
+    let l : unsigned_abs x ≤ MAX_SQUARED = ltb-false MAX_SQUARED (unsigned_abs x) h in
+    let p = product_small (unsigned_abs x) MAX_SQUARED l in
     omega (arith, e, p)
 
 squares_grow : (n : ℕ) (a b : Squares) → squares_small 1 a → squares_small n b → squares_small (suc n) (squares_and a b)
@@ -128,5 +131,5 @@ squares_are_small : (xs : List ℤ) → squares_small (length xs) (squares_of xs
 squares_are_small [] = omega arith
 squares_are_small (x ∷ xs) = subst (squares_small (suc (length xs))) (sym (square_then x xs)) (squares_grow (length xs) (square_of x) (squares_of xs) (square_is_small x (is_wide x) refl) (squares_are_small xs))
 
-pub summary_small : (xs : List ℤ) → All (λ x. unsigned_abs x ≤ 2 ^ 96) xs → length xs ≤ 10000 → IsSmall (summary_of xs)
+pub summary_small : (xs : List ℤ) → All (λ x. unsigned_abs x ≤ MAX_WORTH) xs → length xs ≤ MAX_RUNS → IsSmall (summary_of xs)
 summary_small xs h few = record { count = few; sum = total_small xs h; squares = squares_are_small xs }

@@ -1,5 +1,6 @@
 -- What runs come to, by what each of them comes to.
-use Rattle.std.specs.Prelude.{ℕ, zero, suc, ◌+◌, ◌^◌, ◌≡◌, ◌≤◌, ◌<◌, ℤ, unsigned_abs, Bool, List, [], ◌∷◌, length, Option, Some, None, slice_index_or, count_by}
+use Rattle.std.specs.Prelude.{ℕ, zero, suc, ◌+◌, ◌≡◌, ◌≤◌, ◌<◌, ℤ, unsigned_abs, Bool, List, [], ◌∷◌, length, Option, Some, None, slice_index_or, count_by}
+use Rattle.san_base.specs.declared.limits.TheConstants.{MAX_WORTH}
 use Rattle.san_summary.specs.Summaries.{summary_of}
 use Rattle.san_summary.specs.declared.batch.TheConstants.{MAX_RUNS}
 use Rattle.san_summary.specs.declared.summary.Summary.{Summary}
@@ -33,10 +34,10 @@ pub record Sums : Type 0 where
 abbrev pub sums_of : ℕ → List Outcome → Sums
 sums_of many os = record { runs = length os; stopped = count_by (λ o. o.stopped) os; rewards = summaries 0 many os }
 
--- a number within 2^96 either way, or none
+-- a number within MAX_WORTH either way, or none
 abbrev pub IsSmallNumber : Option ℤ → Type 0
 IsSmallNumber None = Unit {0}
-IsSmallNumber (Some x) = unsigned_abs x ≤ 2 ^ 96
+IsSmallNumber (Some x) = unsigned_abs x ≤ MAX_WORTH
 
 -- all numbers of the runs
 abbrev pub AreSmall : List Outcome → Type 0

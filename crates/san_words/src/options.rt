@@ -166,36 +166,22 @@ fn optional<'a>(name: &'a str, range: NumberRange, number: u64, text: &'a str) -
 pub(crate) fn row<'a>(option: NumberOption) -> OptionRow<'a>
     ensures { IsRow (row_of option) result }
 {
+    use NumberOption::*;
     use NumberRange::{Signed, Unsigned};
     match option {
-        NumberOption::Seed => required("seed", Unsigned(0, u64::MAX)),
-        NumberOption::Horizon => required("horizon", Unsigned(0, MAX_HORIZON)),
-        NumberOption::Burst => optional("burst", Signed(1, MAX_BURST), DEFAULT_BURST, "1000"),
-        NumberOption::Events => optional(
-            "events",
-            Unsigned(1, MAX_EVENTS),
-            DEFAULT_EVENTS,
-            "1000000",
-        ),
-        NumberOption::Workers => optional("workers", Signed(0, MAX_WORKERS), DEFAULT_WORKERS, "4"),
-        NumberOption::Window => optional("window", Signed(1, MAX_WINDOW), DEFAULT_WINDOW, "16"),
-        NumberOption::Rollbacks => optional(
-            "rollbacks",
-            Unsigned(0, MAX_ROLLBACKS),
-            DEFAULT_ROLLBACKS,
-            "10000",
-        ),
-        NumberOption::Make => unset("make", Signed(MIN_COPIES, MAX_COPIES)),
-        NumberOption::Kind => optional("kind", Signed(FARM_NUMBER, RING_NUMBER), DEFAULT_KIND, "1"),
-        NumberOption::Runs => required("runs", Signed(1, MAX_RUNS)),
-        NumberOption::BatchWorkers => optional(
-            "workers",
-            Signed(1, MAX_WORKERS),
-            DEFAULT_BATCH_WORKERS,
-            "4",
-        ),
-        NumberOption::Place => required("place", Signed(0, LAST_PLACE)),
-        NumberOption::Least => required("least", Signed(0, MAX_TOKENS)),
-        NumberOption::FirstRuns => optional("runs", Signed(1, MAX_RUNS), DEFAULT_RUNS, "1"),
+        Seed => required("seed", Unsigned(0, u64::MAX)),
+        Horizon => required("horizon", Unsigned(0, MAX_HORIZON)),
+        Burst => optional("burst", Signed(1, MAX_BURST), DEFAULT_BURST, "1000"),
+        Events => optional("events", Unsigned(1, MAX_EVENTS), DEFAULT_EVENTS, "1000000"),
+        Workers => optional("workers", Signed(0, MAX_WORKERS), DEFAULT_WORKERS, "4"),
+        Window => optional("window", Signed(1, MAX_WINDOW), DEFAULT_WINDOW, "16"),
+        Rollbacks => optional("rollbacks", Unsigned(0, MAX_ROLLBACKS), DEFAULT_ROLLBACKS, "10000"),
+        Make => unset("make", Signed(MIN_COPIES, MAX_COPIES)),
+        Kind => optional("kind", Signed(FARM_NUMBER, RING_NUMBER), DEFAULT_KIND, "1"),
+        Runs => required("runs", Signed(1, MAX_RUNS)),
+        BatchWorkers => optional("workers", Signed(1, MAX_WORKERS), DEFAULT_BATCH_WORKERS, "4"),
+        Place => required("place", Signed(0, LAST_PLACE)),
+        Least => required("least", Signed(0, MAX_TOKENS)),
+        FirstRuns => optional("runs", Signed(1, MAX_RUNS), DEFAULT_RUNS, "1"),
     }
 }

@@ -1,5 +1,7 @@
 -- Summaries put together.
-use Rattle.std.specs.Prelude.{ℕ, ◌+◌, ◌*◌, ◌^◌, ◌≤◌, ◌<◌, ℤ, pos, ◌+ℤ◌, ◌*ℤ◌, unsigned_abs, cond, Option, Some, None}
+use Rattle.std.specs.Prelude.{ℕ, ◌+◌, ◌*◌, ◌≤◌, ◌<◌, ℤ, pos, ◌+ℤ◌, ◌*ℤ◌, unsigned_abs, cond, Option, Some, None}
+use Rattle.san_summary.specs.declared.summary.TheConstants.{MAX_SQUARED}
+use Rattle.san_base.specs.declared.limits.TheConstants.{MAX_WORTH}
 use Rattle.san_summary.specs.Summaries.{greater, is_wide, lesser}
 use Rattle.san_summary.specs.declared.batch.TheConstants.{MAX_RUNS}
 use Rattle.san_summary.specs.declared.summary.Summary.{Summary}
@@ -23,14 +25,14 @@ none = record { count = 0; sum = pos 0; squares = squares.Sum (pos 0); least = N
 abbrev pub joined : Summary → Summary → Summary
 joined a b = record { count = a.count + b.count; sum = a.sum +ℤ b.sum; squares = squares_and a.squares b.squares; least = lesser a.least b.least; greatest = greater a.greatest b.greatest }
 
--- of so many numbers, of which each has a square of 10^34 at most
+-- the squares of so many numbers, none of them greater than MAX_SQUARED in size
 abbrev pub squares_small : ℕ → Squares → Type 0
-squares_small n (squares.Sum x) = unsigned_abs x ≤ n * 10000000000000000000000000000000000
+squares_small n (squares.Sum x) = unsigned_abs x ≤ n * (MAX_SQUARED * MAX_SQUARED)
 squares_small n squares.Wide = Unit {0}
 
 pub record IsSmall (s : Summary) : Type 0 where
   pub count : s.count ≤ MAX_RUNS
-  pub sum : unsigned_abs s.sum ≤ s.count * 2 ^ 96
+  pub sum : unsigned_abs s.sum ≤ s.count * MAX_WORTH
   pub squares : squares_small s.count s.squares
 
 -- two of them have a summary together
@@ -42,7 +44,7 @@ pub record CanJoinOne (a b : Summary) : Type 0 where
 -- a number more
 pub record CanCountOne (a : Summary) (x : ℤ) : Type 0 where
   pub first : IsSmall a
-  pub small : unsigned_abs x ≤ 2 ^ 96
+  pub small : unsigned_abs x ≤ MAX_WORTH
   pub few : a.count < MAX_RUNS
 
 abbrev pub CanCount : Summary → Option ℤ → Type 0
