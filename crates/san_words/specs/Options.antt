@@ -12,7 +12,7 @@ use Rattle.san_gen.specs.declared.model.TheConstants.{MAX_COPIES, MIN_COPIES}
 use Rattle.san_gen.specs.declared.model.ModelKind.{ModelKind}
 use Rattle.san_gen.specs.declared.model.ModelKind.TheVariants.{Farm, Ring}
 use Rattle.san_summary.specs.declared.batch.TheConstants.{MAX_RUNS}
-use Rattle.san_words.specs.declared.options.TheConstants.{DEFAULT_BATCH_WORKERS, DEFAULT_BURST, DEFAULT_EVENTS, DEFAULT_KIND, DEFAULT_ROLLBACKS, DEFAULT_RUNS, DEFAULT_WINDOW, DEFAULT_WORKERS, FARM_NUMBER, LAST_PLACE, RING_NUMBER}
+use Rattle.san_words.specs.declared.options.TheConstants.{DEFAULT_BURST, DEFAULT_EVENTS, DEFAULT_KIND, DEFAULT_ROLLBACKS, DEFAULT_RUNS, DEFAULT_WINDOW, DEFAULT_WORKERS, FARM_NUMBER, LAST_PLACE, RING_NUMBER}
 use Rattle.san_words.specs.declared.options.NumberOption.{NumberOption}
 use Rattle.san_words.specs.declared.options.NumberOption.TheVariants.{Seed, Horizon, Burst, Events, Workers, Window, Rollbacks, Make, Kind, Runs, BatchWorkers, Place, Least, FirstRuns}
 use Rattle.san_words.specs.declared.options.NumberRange.{NumberRange}
@@ -47,7 +47,7 @@ row_of Rollbacks = optional (codes "rollbacks") (Unsigned 0 MAX_ROLLBACKS) DEFAU
 row_of Make = unset (codes "make") (Signed MIN_COPIES MAX_COPIES)
 row_of Kind = optional (codes "kind") (Signed FARM_NUMBER RING_NUMBER) DEFAULT_KIND
 row_of Runs = required (codes "runs") (Signed 1 MAX_RUNS)
-row_of BatchWorkers = optional (codes "workers") (Signed 1 MAX_WORKERS) DEFAULT_BATCH_WORKERS
+row_of BatchWorkers = optional (codes "workers") (Signed 1 MAX_WORKERS) DEFAULT_WORKERS
 row_of Place = required (codes "place") (Signed 0 LAST_PLACE)
 row_of Least = required (codes "least") (Signed 0 MAX_TOKENS)
 row_of FirstRuns = optional (codes "runs") (Signed 1 MAX_RUNS) DEFAULT_RUNS

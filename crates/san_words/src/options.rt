@@ -16,7 +16,7 @@ const DEFAULT_BURST: u64 = 1_000;
 /// The event limit where none is given, in completions.
 const DEFAULT_EVENTS: u64 = 1_000_000;
 
-/// The threads that run ahead where no number is given.
+/// The threads that run ahead, or that run a batch, where no number is given.
 const DEFAULT_WORKERS: u64 = 4;
 
 /// The window where none is given, in pieces.
@@ -33,9 +33,6 @@ pub(crate) const RING_NUMBER: u32 = 2;
 
 /// The kind of a generated model where none is given.
 const DEFAULT_KIND: u64 = 1;
-
-/// The threads that run a batch where no number is given.
-const DEFAULT_BATCH_WORKERS: u64 = 4;
 
 /// The runs up to a marking where no number is given.
 const DEFAULT_RUNS: u64 = 1;
@@ -175,11 +172,16 @@ pub(crate) fn row<'a>(option: NumberOption) -> OptionRow<'a>
         Events => optional("events", Unsigned(1, MAX_EVENTS), DEFAULT_EVENTS, "1000000"),
         Workers => optional("workers", Signed(0, MAX_WORKERS), DEFAULT_WORKERS, "4"),
         Window => optional("window", Signed(1, MAX_WINDOW), DEFAULT_WINDOW, "16"),
-        Rollbacks => optional("rollbacks", Unsigned(0, MAX_ROLLBACKS), DEFAULT_ROLLBACKS, "10000"),
+        Rollbacks => optional(
+            "rollbacks",
+            Unsigned(0, MAX_ROLLBACKS),
+            DEFAULT_ROLLBACKS,
+            "10000",
+        ),
         Make => unset("make", Signed(MIN_COPIES, MAX_COPIES)),
         Kind => optional("kind", Signed(FARM_NUMBER, RING_NUMBER), DEFAULT_KIND, "1"),
         Runs => required("runs", Signed(1, MAX_RUNS)),
-        BatchWorkers => optional("workers", Signed(1, MAX_WORKERS), DEFAULT_BATCH_WORKERS, "4"),
+        BatchWorkers => optional("workers", Signed(1, MAX_WORKERS), DEFAULT_WORKERS, "4"),
         Place => required("place", Signed(0, LAST_PLACE)),
         Least => required("least", Signed(0, MAX_TOKENS)),
         FirstRuns => optional("runs", Signed(1, MAX_RUNS), DEFAULT_RUNS, "1"),
