@@ -1,10 +1,6 @@
 -- What is kept of a run of a small network.
-use Rattle.std.proofs.Common.{ℕ, zero, suc, ◌+◌, ◌<◌, ◌≤◌, ◌≡◌, ◌∙◌, inl, inr, ap, sym, refl, subst, arith, List, [], ◌∷◌, length, Some, Result, Ok, Err, ℤ, pos}
-use Rattle.std.specs.Prelude.{slice_index}
+use Rattle.std.proofs.Common.{ℕ, zero, suc, ◌+◌, ◌<◌, ◌≤◌, ◌≡◌, ◌∙◌, inl, inr, ap, sym, refl, subst, arith, List, [], ◌∷◌, length, Some, Result, Ok, Err}
 use Rattle.san_base.specs.Draws.{pick}
-use Rattle.san_base.specs.declared.ending.Trap.TheVariants as trap
-use Rattle.san_expr.specs.declared.dist.Dist.TheVariants as dist
-use Rattle.san_expr.specs.declared.expr.Expr.TheVariants.{Number}
 use Rattle.san_law.specs.Activity.{Effected, activity_of, no_activity}
 use Rattle.san_law.specs.Net.{Row}
 use Rattle.san_law.specs.Network.{part_at}
@@ -15,11 +11,6 @@ use Rattle.san_law.specs.State.{index_of, scatter}
 use Rattle.san_base.specs.declared.ending.Trap.{Trap}
 use Rattle.san_legal.proofs.StepLemmas.{same_all}
 use Rattle.san_legal.specs.Examples.{after_steady, at_opening, both_run, race, racing, set_at_opening, slow, slow_late, steady, steady_first, ten_ticks, two_draws_taken}
-use Rattle.san_legal.specs.Delays.{Between, Delays, Exactly, IsDelayOf, OneOf, delays_of, exactly, span_of}
-use Rattle.san_expr.specs.Delay.{ticks_of}
-use Rattle.san_expr.specs.Meaning.{Meaning, settled, then_do}
-use Rattle.san_expr.specs.Value.{value_of}
-use Rattle.san_net.proofs.Counted.{number_value}
 use Rattle.san_legal.specs.Free.{IsFree, IsFreeNetwork}
 use Rattle.san_legal.specs.Kept.{HasOne, HaveSome, IsLater, KeptState}
 use Rattle.san_legal.specs.KeptSteps.{kept_completed, kept_fired, kept_opening, kept_renewed}
@@ -118,16 +109,16 @@ same_values r e f he hf = ap (λ (x : Effected). x.values) (same (sym he ∙ hf)
     same : (let y : Result Effected Trap = Ok e in y) ≡ Ok f → e ≡ f
     same h = cc
 
-same_ticks : (a b : ℕ) → (let r : Result ℕ Trap = Ok a in r) ≡ Ok b → a ≡ b
+pub same_ticks : (a b : ℕ) → (let r : Result ℕ Trap = Ok a in r) ≡ Ok b → a ≡ b
 same_ticks a b e = cc
 
-no_trap : (a : ℕ) (t : Trap) → (let r : Result ℕ Trap = Ok a in r) ≡ Err t → ⊥
+pub no_trap : (a : ℕ) (t : Trap) → (let r : Result ℕ Trap = Ok a in r) ≡ Err t → ⊥
 no_trap a t e = cc
 
 at_least_two : (n ticks : ℕ) → 2 + n ≡ ticks → 1 ≤ ticks
 at_least_two n ticks e = omega (arith, e)
 
-slow_free : IsFree slow
+pub slow_free : IsFree slow
 slow_free = record {
   delays = record {
     some = λ u ticks v h e. at_least_two (pick u 3) ticks (same_ticks (2 + pick u 3) ticks e);
@@ -164,33 +155,3 @@ its_act (suc j) k h = absurd (omega (arith, h))
 
 pub racing_free : IsFreeNetwork racing
 racing_free = record { each = each_free; apart = record { leaf_of = λ a. 0; act_of = λ a. a; leaf = only_leaf; act = its_act } }
-
--- ---- delays
-
-of_bounds : Meaning ℤ → Meaning ℤ → Result Delays Trap
-of_bounds low high = (then_do low (λ x. then_do high (λ y. settled (span_of (ticks_of x) (ticks_of y)))) []).answer
-
-bounds_are : (a b : ℤ) → of_bounds (value_of (Number a)) (value_of (Number b)) ≡ of_bounds (settled (Ok a)) (settled (Ok b))
-bounds_are a b = ap (λ (low : Meaning ℤ). of_bounds low (value_of (Number b))) (number_value a) ∙ ap (of_bounds (settled (Ok a))) (number_value b)
-
-pub span_computed : (delays_of (dist.Uniform (Number (pos 2)) (Number (pos 4))) []).answer ≡ Ok (Between 2 4)
-unfolding of_bounds
-span_computed = bounds_are (pos 2) (pos 4)
-
-pub empty_span_traps : (delays_of (dist.Uniform (Number (pos 4)) (Number (pos 2))) []).answer ≡ Err trap.Delay
-unfolding of_bounds
-empty_span_traps = bounds_are (pos 4) (pos 2)
-
-pub value_computed : (delays_of (dist.Det (Number (pos 3))) []).answer ≡ Ok (Exactly 3)
-value_computed = ap (λ (m : Meaning ℤ). (then_do m (λ x. settled (exactly (ticks_of x))) []).answer) (number_value (pos 3))
-
-pub light_entry : IsDelayOf (OneOf ((2, 1) ∷ (5, 0) ∷ [])) 5 → ⊥
-light_entry is = by_entry is.0 is.1 is.2
-  where
-    by_entry : (k : ℕ) → 0 < slice_index (1 ∷ 0 ∷ []) k → slice_index (2 ∷ 5 ∷ []) k ≡ 5 → ⊥
-    by_entry zero h e = absurd (omega (arith, e))
-    by_entry (suc zero) h e = absurd (omega (arith, h))
-    by_entry (suc (suc k)) h e = absurd (omega (arith, h))
-
-pub heavy_entry : IsDelayOf (OneOf ((2, 1) ∷ (5, 0) ∷ [])) 2
-heavy_entry = (0, omega arith, refl)

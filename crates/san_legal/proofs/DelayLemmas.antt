@@ -31,7 +31,7 @@ same_trap s t e = cc
 not_both : (a : ℕ) (t : Trap) → (let r : Ticks = Ok a in r) ≡ Err t → ⊥
 not_both a t e = cc
 
-pick_below : (u w : ℕ) → u < 2 ^ 64 → 0 < w → pick u w < w
+pub pick_below : (u w : ℕ) → u < 2 ^ 64 → 0 < w → pick u w < w
 pick_below u w h some =
     let product : u * w < 2 ^ 64 * w = mul-lt-mul_of_pos_right h some in
     (div-lt_iff_lt-mul {k = 2 ^ 64} {x = u * w} {y = w} (omega arith)).1 (omega arith)
@@ -129,7 +129,7 @@ ticks_in_range (pos n) = both_tests n (nat_le 1 n) (nat_le n 4294967296) (leb-tr
 ticks_in_range (negsuc n) = tt
 
 -- each number of a span
-span_given : (a b : ℕ) → a ≤ b → IsDelay a → IsDelay b → (ticks : ℕ) → IsGiven (λ u. Ok (a + pick u (b - a + 1))) ticks ↔ ((a ≤ ticks) × (ticks ≤ b))
+pub span_given : (a b : ℕ) → a ≤ b → IsDelay a → IsDelay b → (ticks : ℕ) → IsGiven (λ u. Ok (a + pick u (b - a + 1))) ticks ↔ ((a ≤ ticks) × (ticks ≤ b))
 span_given a b h low high ticks = (
   (λ given. (
       let is : a + pick given.0 (b - a + 1) ≡ ticks = same_ticks (a + pick given.0 (b - a + 1)) ticks given.2 in

@@ -1,12 +1,8 @@
-//! What is kept of a run of a small network, and delays, computed.
+//! What is kept of a run of a small network, computed.
 
-ghost use Rattle.std.specs.Prelude.{◌≡◌, pos, [], ◌∷◌, Ok, Err};
-ghost use Rattle.san_base.specs.declared.ending.Trap.TheVariants as trap;
-ghost use Rattle.san_expr.specs.declared.dist.Dist.TheVariants as dist;
-ghost use Rattle.san_expr.specs.declared.expr.Expr.TheVariants.{Number};
+ghost use Rattle.std.specs.Prelude.{◌≡◌, [], ◌∷◌};
 ghost use Rattle.san_law.specs.Network.{part_at};
 ghost use Rattle.san_legal.specs.Draws.{AgreeOn};
-ghost use Rattle.san_legal.specs.Delays.{Between, Exactly, IsDelayOf, OneOf, delays_of};
 ghost use Rattle.san_legal.specs.Examples.{after_both, after_steady, at_opening, both_run, no_draw_taken, race, racing, slow_late, steady_first, steady_then_slow, ten_ticks, two_draws_taken};
 ghost use Rattle.san_legal.specs.Free.{IsFreeNetwork};
 ghost use Rattle.san_legal.specs.Kept.{KeptState};
@@ -28,14 +24,4 @@ pub fn a_small_race()
     ensures free { IsFreeNetwork racing }
     // draws that agree in the numbers that were taken, and differ in all others
     ensures agree { AgreeOn (λ stream number. 0) (λ stream number. number) (part_at racing 0) no_draw_taken two_draws_taken }
-{}
-
-/// A value, a span, an empty span, and a table with an entry of weight 0.
-#[tactic(auto, using(crate::proofs::Computed::span_computed, crate::proofs::Computed::empty_span_traps, crate::proofs::Computed::value_computed, crate::proofs::Computed::light_entry, crate::proofs::Computed::heavy_entry))]
-pub fn small_delays()
-    ensures value { (delays_of (dist.Det (Number (pos 3))) []).answer ≡ Ok (Exactly 3) }
-    ensures span { (delays_of (dist.Uniform (Number (pos 2)) (Number (pos 4))) []).answer ≡ Ok (Between 2 4) }
-    ensures empty_span { (delays_of (dist.Uniform (Number (pos 4)) (Number (pos 2))) []).answer ≡ Err trap.Delay }
-    ensures heavy { IsDelayOf (OneOf ((2, 1) ∷ (5, 0) ∷ [])) 2 }
-    ensures light { IsDelayOf (OneOf ((2, 1) ∷ (5, 0) ∷ [])) 5 → ⊥ }
 {}
