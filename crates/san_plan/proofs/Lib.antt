@@ -3,3 +3,7 @@ pub mod Planned
 pub mod Rows
 pub mod Values
 pub mod Ends
+pub mod Rising
+pub mod Frees
+pub mod Orders
+pub mod Leasts

@@ -77,7 +77,7 @@ leaf_at a i (suc k) q (r ∷ rs) p numbered at is =
     ∙ leaf_at (suc a) i k q rs p (from_next a r rs numbered) (omega (arith, at)) is
 
 -- a number is in a list where one of it is equal
-is_there : (q : ℕ) (slots : List ℕ) → is_in (index_of q slots) ≡ list_any (nat_eq q) slots
+pub is_there : (q : ℕ) (slots : List ℕ) → is_in (index_of q slots) ≡ list_any (nat_eq q) slots
 is_there q [] = refl
 is_there q (s ∷ ss) = by_test (nat_eq q s) (is_there q ss)
   where
@@ -90,7 +90,7 @@ is_there q (s ∷ ss) = by_test (nat_eq q s) (is_there q ss)
     by_test false rest = by_rest (index_of q ss) ∙ rest
 
 module _ (n : Network) (draw : ℕ → ℕ → ℕ) (limits : law.Limits) (numbered : (k : ℕ) (p : Part) → slice_get n.parts k ≡ Some p → p.leaf.0 ≡ k) where
-  place_there : (i : ℕ) (p : Part) → slice_get n.parts i ≡ Some p → (places : List PlaceId) → any_place n.parts i places ≡ any_in (map (λ (x : PlaceId). x.0) places) (slots_of (net_of n draw limits) i)
+  pub place_there : (i : ℕ) (p : Part) → slice_get n.parts i ≡ Some p → (places : List PlaceId) → any_place n.parts i places ≡ any_in (map (λ (x : PlaceId). x.0) places) (slots_of (net_of n draw limits) i)
   place_there i p is [] = refl
   place_there i p is (x ∷ xs) =
       ap (λ (b : Bool). b || any_place n.parts i xs)
