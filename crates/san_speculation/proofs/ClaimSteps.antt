@@ -84,7 +84,7 @@ module _ (m : MachineValue) (a : AheadValue) (os : List (Option LeafId)) (js : L
       stopped : is_there (core_in m).stop ≡ false
       stopped = (goes_where (book_in m) m.limits here.book goes).open_end
 
-      going : m.held.core.stop ≡ None
+      pub going : m.held.core.stop ≡ None
       going = ap (λ (x : law.Core). x.stop) follows_here.held ∙ not_stopped (core_in m).stop stopped
 
       module _ (j : ℕ) (there : j < length a.chains) where
@@ -177,6 +177,10 @@ module _ (m : MachineValue) (a : AheadValue) (os : List (Option LeafId)) (js : L
   may_here w (Some leaf) goes steps backs there claim none = absurd (cc)
   may_here w None goes steps backs there claim none =
       may m a here.book w goes (let l = length_steps in omega (arith, l, steps)) backs there (ap has_none claim)
+
+  pub none_held : (w : ℕ) (o : Option LeafId) → claim_of here.book.claims w ≡ claim_in o → is_some o ≡ false → claim_of here.book.claims w ≡ None
+  none_held w (Some leaf) claim none = absurd (cc)
+  none_held w None claim none = claim
 
   module _ (v : CoreValue) (seen : here ≡ v) (w : ℕ) where
     stays_by : may_claim (book_in m) m.limits here.book w ≡ false → Stays v (book.Claim w) v

@@ -1,17 +1,16 @@
 -- Which leaf is claimed next, and that the claim fits.
-use Rattle.std.proofs.Common.{ℕ, zero, suc, ◌<◌, ◌≤◌, ◌≡◌, ◌∙◌, ap, sym, subst, refl, arith, Bool, true, false, not, ◌&&◌, nat_lt, List, [], ◌∷◌, length, drop, Option, Some, None}
+use Rattle.std.proofs.Common.{ℕ, ◌<◌, ◌≤◌, ◌≡◌, ◌∙◌, ap, sym, subst, refl, arith, Bool, true, false, not, ◌&&◌, nat_lt, List, [], length, Option, Some, None}
 use Rattle.std.specs.Option.{option_map}
-use Rattle.std.specs.Prelude.{IfSome, if◌then◌else◌}
+use Rattle.std.specs.Prelude.{IfSome}
 use Rattle.std.proofs.lemmas.Bool.{lt-ltb}
 use Rattle.std.proofs.lemmas.Bool.Decides.{nat_tests}
 use Rattle.san_base.proofs.Bools.{and_true}
 use Rattle.san_base.proofs.NumberTests.{some_same}
-use Rattle.san_base.specs.declared.numbers.LeafId.{LeafId}
 use Rattle.san_ahead.specs.Ahead.{AheadValue, last_of}
 use Rattle.san_book.specs.Chains.{chain_of}
 use Rattle.san_book.specs.Cores as book
 use Rattle.san_book.specs.Cores.{Pending, claim_of, is_claimed}
-use Rattle.san_book.specs.Plans.{earlier, earliest, time_of, when}
+use Rattle.san_book.specs.Plans.{time_of, when}
 use Rattle.san_book.specs.Steps.{goes_on, has_none, may_claim}
 use Rattle.san_book.specs.declared.limits.TheConstants.{MAX_STEPS_TO_CLAIM}
 use Rattle.san_chain.specs.Chains.{end_from}
@@ -30,7 +29,7 @@ use Rattle.san_plan.specs.Plans.{IsFit, LastFits, end_state, plan_at, plan_in}
 use Rattle.san_plan.specs.declared.plan.Plan.{Plan}
 use Rattle.san_plan.proofs.Planned.{end_last}
 use Rattle.san_speculation.specs.Speculating.{book_in}
-use Rattle.san_speculation.specs.inner.Claiming.{IsPlanOf, OwnPlan, first_of, free_time, goes_with, numbers_in}
+use Rattle.san_speculation.specs.inner.Claiming.{IsPlanOf, free_time, goes_with}
 use Rattle.san_speculation.specs.inner.Committing.{is_full, with_parts}
 use Rattle.san_speculation.proofs.Nexts.{full_goes, goes_here, none_goes}
 
@@ -45,38 +44,11 @@ goes_by_need m follows t need a c = by_full (is_full m) refl
 pub goes_by_none : (m : MachineValue) → FollowsRun m → next_piece (net_in m) (core_in m) ≡ None → (a : AheadValue) → goes_with m a false
 goes_by_none m follows none a c = none_goes m follows a none c
 
--- one leaf more
-pub earliest_more : {X : Type 0} (f : ℕ → Option ℕ) (n : ℕ) (xs : List X) (k : ℕ) → k < length xs → earlier n (f n) (earliest f (suc n) (drop (suc k) xs)) ≡ earliest f n (drop k xs)
-earliest_more f n [] k l = absurd (omega (arith, l))
-earliest_more f n (x ∷ xs) zero l = refl
-earliest_more f n (x ∷ xs) (suc k) l = earliest_more f n xs k (omega (arith, l))
+below_not : (x y : ℕ) → y ≤ x → nat_lt x y ≡ false
+below_not x y h = grind (arith, nat_tests)
 
 abbrev time_in : Plan → ℕ
 time_in p = p.time.0
-
-abbrev pair_by : Bool → LeafId × Plan → LeafId × Plan → Option (LeafId × Plan)
-pair_by b x y = if b then Some x else Some y
-
-pub first_numbers : (leaf : LeafId) (plan : Option Plan) (rest : Option (LeafId × Plan)) → numbers_in (first_of leaf plan rest) ≡ earlier leaf.0 (option_map time_in plan) (numbers_in rest)
-first_numbers leaf None rest = refl
-first_numbers leaf (Some plan) None = refl
-first_numbers leaf (Some plan) (Some later) = by_test (nat_lt later.1.time.0 plan.time.0)
-  where
-    by_test : (b : Bool) → numbers_in (pair_by b later (leaf, plan)) ≡ (if b then Some (later.1.time.0, later.0.0) else Some (plan.time.0, leaf.0))
-    by_test true = refl
-    by_test false = refl
-
-pub first_own : (m : MachineValue) (a : AheadValue) (leaf : LeafId) (plan : Option Plan) (rest : Option (LeafId × Plan)) → IfSome plan (IsPlanOf m a leaf.0) → OwnPlan m a rest → OwnPlan m a (first_of leaf plan rest)
-first_own m a leaf None rest h k = k
-first_own m a leaf (Some plan) None h k = h
-first_own m a leaf (Some plan) (Some later) h k = by_test (nat_lt later.1.time.0 plan.time.0)
-  where
-    by_test : (b : Bool) → OwnPlan m a (pair_by b later (leaf, plan))
-    by_test true = k
-    by_test false = h
-
-below_not : (x y : ℕ) → y ≤ x → nat_lt x y ≡ false
-below_not x y h = grind (arith, nat_tests)
 
 -- a free leaf
 module _ (m : MachineValue) (a : AheadValue) (claims : List (Option Pending)) (j : ℕ) where
@@ -88,13 +60,6 @@ module _ (m : MachineValue) (a : AheadValue) (claims : List (Option Pending)) (j
 
   pub free_claimed : is_claimed j claims ≡ true → None ≡ free_time m a claims j
   free_claimed claimed = sym (ap (λ (b : Bool). free_by b room) claimed)
-
-  free_narrow : (b : Bool) → when (not b && false) (time_of (plan_at m a j)) ≡ None
-  free_narrow true = refl
-  free_narrow false = refl
-
-  pub free_full : m.limits.window ≤ length (chain_of a.chains j) → None ≡ free_time m a claims j
-  free_full long = sym (ap (free_by (is_claimed j claims)) (below_not (length (chain_of a.chains j)) m.limits.window long) ∙ free_narrow (is_claimed j claims))
 
   time_mapped : (first : ℕ) (o : Option Plan) → option_map time_in o ≡ time_of (option_map (plan_in first) o)
   time_mapped first None = refl

@@ -63,9 +63,6 @@ module _ (m mid : MachineValue) (room : ℕ) (reserved : mid ≡ with_spare m (m
   pub spare_reserved : room ≤ mid.spare
   spare_reserved = let e : mid.spare ≡ max m.spare room = ap (λ (x : MachineValue). x.spare) reserved in omega (arith, e)
 
-  pub sizes_reserved : (a : AheadValue) → length m.network.parts ≤ length a.chains → length mid.network.parts ≤ length a.chains
-  sizes_reserved a l = subst (λ (x : MachineValue). length x.network.parts ≤ length a.chains) (sym reserved) l
-
   module _ (a : AheadValue) (k : ℕ) (n : MachineValue) (b : AheadValue) (taken : TakesHeads mid a k n b) where
     taken_here : TakesHeads (with_spare m (max m.spare room)) a k n b
     taken_here = subst (λ (x : MachineValue). TakesHeads x a k n b) reserved taken

@@ -20,3 +20,6 @@ pub mod SmallBooks
 pub mod SmallReads
 pub mod Claimings
 pub mod ClaimSteps
+pub mod Soonests
+pub mod Founds
+pub mod Lows

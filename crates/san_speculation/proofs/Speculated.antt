@@ -58,7 +58,7 @@ found_below [] m i q below e = absurd (cc)
 found_below (x ∷ xs) m zero q below e = subst (λ (k : ℕ). k < m) (some_same x q e) below.0
 found_below (x ∷ xs) m (suc i) q below e = found_below xs m i q below.1 e
 
-shared_within : (n : Network) (draw : ℕ → ℕ → ℕ) (limits : Bounds) → HasTwo n → (m : ℕ) → IsLaid (net_of n draw limits) m → n.shared ≤ m
+pub shared_within : (n : Network) (draw : ℕ → ℕ → ℕ) (limits : Bounds) → HasTwo n → (m : ℕ) → IsLaid (net_of n draw limits) m → n.shared ≤ m
 shared_within n draw limits shared m laid = by_case (cases_lt m n.shared)
   where
     by_case : (m < n.shared) ⊎ (n.shared ≤ m) → n.shared ≤ m

@@ -2,3 +2,4 @@ pub mod Ascending
 pub mod Committing
 pub mod Going
 pub mod Claiming
+pub mod Soonest

@@ -34,7 +34,12 @@ impl Core {
         if self.claims[worker as usize].is_some() {
             return Ok(None);
         }
-        let Some((leaf, plan)) = planned(&self.machine, &self.ahead, &self.claims) else {
+        let Some((leaf, plan)) = planned(
+            &self.machine,
+            &self.ahead,
+            &self.claims,
+            &mut self.soonest,
+        ) else {
             return Ok(None);
         };
         self.journal.reserve(1)?;

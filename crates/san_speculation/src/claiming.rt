@@ -1,13 +1,15 @@
 //! Which leaf is claimed next, and what a worker is to make of its plan.
 
-ghost use Rattle.std.specs.Prelude.{◌≡◌, ◌≤◌, ◌<◌, IfOk, IfSome, length, map};
+ghost use Rattle.std.specs.Prelude.{◌≡◌, ◌≤◌, ◌<◌, IfOk, IfSome, None, Some, length, map};
 ghost use Rattle.std.specs.Option.{option_map};
 ghost use Rattle.san_ahead.specs.Ahead.{AheadValue};
 ghost use Rattle.san_base.specs.declared.limits.TheConstants.{MAX_LEAVES};
 ghost use Rattle.san_book.specs.Cores.{is_at, is_claimed};
 ghost use Rattle.san_plan.specs.Plans.{IsPlannable, LastFits, end_state};
+ghost use Rattle.san_plan.specs.Soonest.{is_key};
 ghost use Rattle.san_speculation.specs.Speculating.{claim_in};
-ghost use Rattle.san_speculation.specs.inner.Claiming.{ArePlannable, IsClaimOf, IsPlanOf, PlannedBy, first_of, free_time, goes_with};
+ghost use Rattle.san_speculation.specs.inner.Claiming.{ArePlannable, IsClaimOf, IsPlanOf, PlannedBy, free_time, goes_with};
+ghost use Rattle.san_speculation.specs.inner.Soonest.{AreLow, with_leaf};
 
 use crate::need::is_full;
 use san_ahead::{Ahead, sees_all};
@@ -15,6 +17,7 @@ use san_base::{LeafId, NoMemory, Shared, Stamp};
 use san_core::Machine;
 use san_leaf::{Claim, LeafState};
 use san_plan::{Plan, next_plan};
+use san_winner::Winners;
 
 /// Whether a run goes on: it needs a piece, and hasn't taken as much as a stretch may.
 pub(crate) fn goes_on(machine: &Machine) -> bool
@@ -65,45 +68,63 @@ fn free(machine: &Machine, ahead: &Ahead, claims: &[Option<LeafId>], leaf: LeafI
     next_plan(machine, ahead, leaf)
 }
 
-/// A leaf's plan, where it isn't after that of a leaf which comes later.
-fn first_of(
-    leaf: LeafId,
-    plan: Option<Plan>,
-    rest: Option<(LeafId, Plan)>,
-) -> Option<(LeafId, Plan)>
-    ensures { result ≡ first_of leaf plan rest }
+/// A plan's time.
+fn time_of(plan: Option<Plan>) -> Option<u64>
+    ensures { result ≡ option_map (λ p. p.time.0) plan }
 {
-    match (plan, rest) {
-        (None, rest) => rest,
-        (Some(plan), None) => Some((leaf, plan)),
-        (Some(plan), Some(later)) => {
-            if later.1.time.0 < plan.time.0 {
-                Some(later)
-            } else {
-                Some((leaf, plan))
-            }
-        }
+    match plan {
+        Some(plan) => Some(plan.time.0),
+        None => None,
     }
 }
 
-/// The free leaf whose plan has the least time, and of these the least leaf.
+/// Whether a key is this time.
+fn is_key(time: u64, key: Option<u64>) -> bool
+    ensures { result ≡ is_key (Some time) key }
+{
+    match key {
+        Some(key) => time == key,
+        None => false,
+    }
+}
+
+/// A plan with its leaf.
+fn with_leaf(leaf: LeafId, plan: Option<Plan>) -> Option<(LeafId, Plan)>
+    ensures { result ≡ with_leaf leaf plan }
+{
+    match plan {
+        Some(plan) => Some((leaf, plan)),
+        None => None,
+    }
+}
+
+/// The free leaf whose plan has the least time, and of these the least leaf. A key that turns out to
+/// be too low on the way is set to its leaf's plan.
 pub(crate) fn planned(
     machine: &Machine,
     ahead: &Ahead,
     claims: &[Option<LeafId>],
+    soonest: &mut Winners,
 ) -> Option<(LeafId, Plan)>
     requires plannable { ArePlannable machine.now ahead.now }
     requires few { length ahead.now.chains ≤ MAX_LEAVES }
-    ensures { PlannedBy machine.now ahead.now (map claim_in claims.now) result }
+    requires going { machine.now.held.core.stop ≡ None }
+    requires low { AreLow machine.now ahead.now (map claim_in claims.now) soonest.old }
+    ensures planned { PlannedBy machine.now ahead.now (map claim_in claims.now) result }
+    ensures low { AreLow machine.now ahead.now (map claim_in claims.now) soonest.new }
 {
-    let mut least = None;
-    let mut at = ahead.leaves();
-    'leaves: while at > 0 {
-        at -= 1;
+    'leaves: loop {
+        let Some((time, at)) = soonest.least() else {
+            return None;
+        };
         let leaf = LeafId(at as u32);
-        least = first_of(leaf, free(machine, ahead, claims, leaf), least);
+        let plan = free(machine, ahead, claims, leaf);
+        let key = time_of(plan);
+        if is_key(time, key) {
+            return with_leaf(leaf, plan);
+        }
+        soonest.set(at, key);
     }
-    least
 }
 
 /// One more owner of the state that a leaf's chain ends with.

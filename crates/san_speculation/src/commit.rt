@@ -25,7 +25,7 @@ impl Core {
         };
         self.journal.reserve(1)?;
         self.machine.reserve(MAX_COMMIT)?;
-        let pieces = commit_pieces(&mut self.machine, &mut self.ahead, first);
+        let pieces = commit_pieces(&mut self.machine, &mut self.ahead, &mut self.soonest, first);
         self.machine.follows();
         book(&mut self.journal, Step::Commit { worker, pieces });
         Ok(pieces)

@@ -3,6 +3,7 @@
 ghost use Rattle.std.specs.Prelude.{◌<◌, length};
 ghost use Rattle.san_speculation.specs.CoreCalls.{CutBy};
 
+use crate::soonest::touch;
 use crate::speculation::Core;
 use crate::step::Step;
 use san_base::{LeafId, NoMemory};
@@ -28,6 +29,7 @@ impl Core {
         }
         self.journal.push(Step::Cut { worker, leaf })?;
         self.ahead.cut(leaf, current);
+        touch(&mut self.soonest, leaf);
         self.rollbacks += 1;
         Ok(gone)
     }

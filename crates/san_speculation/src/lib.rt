@@ -19,6 +19,7 @@ mod redo;
 mod resuming;
 mod retaking;
 mod snapshot;
+mod soonest;
 mod speculation;
 mod step;
 

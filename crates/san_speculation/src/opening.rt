@@ -7,6 +7,7 @@ ghost use Rattle.san_core.specs.Committed.{StartsRun};
 ghost use Rattle.san_net.specs.Runs.{net_at};
 ghost use Rattle.san_speculation.specs.Speculating.{EveryInterleaving, claim_in, opened_core};
 
+use crate::soonest::unknown;
 use crate::speculation::Core;
 use san_ahead::Ahead;
 use san_base::{LeafId, Limits, NoMemory, Shared};
@@ -47,6 +48,7 @@ impl Core {
         flat.get().is_network();
         let ahead = Ahead::open(alloc, flat.get().leaves(), &start.shared)?;
         let claims = no_claims(alloc, workers)?;
+        let soonest = unknown(alloc, ahead.leaves())?;
         let machine = Machine::open(alloc, flat, seed, limits, start)?;
         Ok(Core {
             machine,
@@ -54,6 +56,7 @@ impl Core {
             claims,
             journal: Vec::new(alloc),
             rollbacks: 0,
+            soonest,
         })
     }
 }

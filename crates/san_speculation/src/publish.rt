@@ -12,6 +12,7 @@ ghost use Rattle.san_speculation.specs.inner.Going.{IsFrom};
 use crate::booking::book;
 use crate::publishing::Publishing;
 use crate::pushing::push;
+use crate::soonest::{touch, touch_written};
 use crate::speculation::Core;
 use crate::step::Step;
 use san_ahead::Ahead;
@@ -70,11 +71,18 @@ impl Core {
             }
             book(&mut self.journal, Step::Late { worker });
             self.claims[worker as usize] = None;
+            touch(&mut self.soonest, leaf);
             return Publishing::Late(piece);
         }
         piece.is_sound();
         piece.fits();
         piece.is_noted();
+        touch(&mut self.soonest, leaf);
+        touch_written(
+            &mut self.soonest,
+            self.machine.network(),
+            &piece.outcome().writes,
+        );
         match push(&mut self.journal, &mut self.ahead, worker, leaf, piece) {
             Ok(()) => {
                 self.claims[worker as usize] = None;

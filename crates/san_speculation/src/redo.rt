@@ -31,7 +31,13 @@ impl Core {
         let piece = self.machine.make(alloc, taking)?;
         self.journal.reserve(1)?;
         self.machine.reserve(1)?;
-        let thrown = retake(&mut self.machine, &mut self.ahead, taking, piece);
+        let thrown = retake(
+            &mut self.machine,
+            &mut self.ahead,
+            &mut self.soonest,
+            taking,
+            piece,
+        );
         self.machine.follows();
         book(&mut self.journal, Step::Redo { worker });
         self.rollbacks += thrown;

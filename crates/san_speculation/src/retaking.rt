@@ -10,12 +10,15 @@ ghost use Rattle.san_law.specs.Core.{leaf_of};
 ghost use Rattle.san_law.specs.Left.{left};
 ghost use Rattle.san_leaf.specs.States.{kind_in};
 ghost use Rattle.san_speculation.specs.Speculating.{book_in};
+ghost use Rattle.san_speculation.specs.inner.Soonest.{KeepsLow};
 ghost use Rattle.san_speculation.specs.inner.Committing.{ArePartsWhole, IsRedone, head_falls};
 
 use crate::need::is_of;
+use crate::soonest::{touch, touch_written};
 use san_ahead::Ahead;
 use san_core::{Machine, Taking};
 use san_leaf::{LeafState, Piece, same_state};
+use san_winner::Winners;
 
 /// Whether two states are equal.
 fn is_same(one: &LeafState, other: &LeafState) -> bool
@@ -50,14 +53,22 @@ fn falls(machine: &Machine, ahead: &Ahead, taking: Taking) -> bool
 
 /// Takes a needed piece that was made anew, and raises its leaf's next number; the leaf's chain is
 /// thrown away where it falls. How many rollbacks that is.
-pub(crate) fn retake(machine: &mut Machine, ahead: &mut Ahead, taking: Taking, piece: Piece) -> u64
+pub(crate) fn retake(
+    machine: &mut Machine,
+    ahead: &mut Ahead,
+    soonest: &mut Winners,
+    taking: Taking,
+    piece: Piece,
+) -> u64
     requires need { IsNeed machine.old taking }
     requires needed { IsNeeded machine.old piece }
     requires whole { ArePartsWhole machine.old ahead.old }
-    requires sizes { length machine.old.network.parts ≤ length ahead.old.chains }
+    requires sizes { length ahead.old.chains ≡ length machine.old.network.parts }
+    requires keys { length soonest.old ≡ length machine.old.network.parts }
     requires few { slice_index ahead.old.counters taking.leaf.0 + 1 < 2 ^ 64 }
     requires spare { 1 ≤ machine.old.spare }
     ensures redone { IsRedone machine.old ahead.old taking machine.new ahead.new result }
+    ensures low { KeepsLow machine.old ahead.old soonest.old machine.new ahead.new soonest.new }
     ensures once { result ≤ 1 }
     ensures machine { machine.new ≡ after_taking machine.old piece }
     ensures less { left (net_in machine.new) (core_in machine.new)
@@ -66,6 +77,8 @@ pub(crate) fn retake(machine: &mut Machine, ahead: &mut Ahead, taking: Taking, p
     machine.follows();
     machine.network().is_network();
     piece.is_sound();
+    touch(soonest, taking.leaf);
+    touch_written(soonest, machine.network(), &piece.outcome().writes);
     let written = machine.take(piece);
     machine.follows();
     ahead.commit(machine.shared(), &written);

@@ -1,5 +1,5 @@
 -- Which leaf is claimed next, as the code finds it.
-use Rattle.std.specs.Prelude.{ℕ, ◌≡◌, ◌<◌, nat_lt, not, ◌&&◌, List, length, Option, Some, None, Bool, slice_index, if◌then◌else◌}
+use Rattle.std.specs.Prelude.{ℕ, ◌≡◌, ◌<◌, nat_lt, not, ◌&&◌, List, length, Option, Some, None, Bool, slice_index}
 use Rattle.san_base.specs.declared.numbers.LeafId.{LeafId}
 use Rattle.san_ahead.specs.Ahead.{AheadValue}
 use Rattle.san_book.specs.Chains.{chain_of}
@@ -35,12 +35,6 @@ free_time m a claims j = when (not (is_claimed j claims) && nat_lt (length (chai
 pub record IsPlanOf (m : MachineValue) (a : AheadValue) (j : ℕ) (p : Plan) : Type 0 where
   pub is : plan_at m a j ≡ Some (plan_in (part_at m.network j).first.0 p)
   pub fits : IsFit (part_at m.network j) p
-
--- a leaf's plan, or that of a later leaf which is sooner
-abbrev pub first_of : LeafId → Option Plan → Option (LeafId × Plan) → Option (LeafId × Plan)
-first_of leaf None rest = rest
-first_of leaf (Some plan) None = Some (leaf, plan)
-first_of leaf (Some plan) (Some later) = if nat_lt later.1.time.0 plan.time.0 then Some later else Some (leaf, plan)
 
 -- a plan's time and its leaf
 abbrev pub numbers_in : Option (LeafId × Plan) → Option (ℕ × ℕ)

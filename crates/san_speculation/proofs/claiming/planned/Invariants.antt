@@ -1,15 +1,12 @@
-use Rattle.std.proofs.Common.{◌≡◌, ◌≤◌, drop, length, map}
-use Rattle.san_book.specs.Plans.{earliest}
+use Rattle.std.proofs.Common.{map}
 use Rattle.san_speculation.specs.Speculating.{claim_in}
-use Rattle.san_speculation.specs.inner.Claiming.{OwnPlan, free_time, numbers_in}
+use Rattle.san_plan.specs.Soonest.{wrong}
+use Rattle.san_speculation.specs.inner.Claiming.{free_time}
+use Rattle.san_speculation.specs.inner.Soonest.{AreLow}
 use Rattle.san_speculation.proofs.claiming.planned.Given as goal
 
 abbrev pub invariant-leaves : goal.invariant-leaves
-invariant-leaves l = record {
-  within : l.at ≤ length l.ahead.chains;
-  least : numbers_in l.least ≡ earliest (free_time l.machine l.ahead (map claim_in l.claims)) l.at (drop l.at l.ahead.chains);
-  own : OwnPlan l.machine l.ahead l.least;
-}
+invariant-leaves l = AreLow l.machine l.ahead (map claim_in l.claims) l.soonest
 
 abbrev pub decreases-leaves : goal.decreases-leaves
-decreases-leaves l = l.at
+decreases-leaves l = wrong (free_time l.machine l.ahead (map claim_in l.claims)) 0 l.soonest

@@ -5,6 +5,7 @@ use Rattle.san_speculation.specs.CoreCalls.{ahead_of}
 use Rattle.san_speculation.specs.Speculating.{CoreValue, IsReplayed, core_by}
 use Rattle.san_speculation.specs.declared.step.Step.{Step}
 use Rattle.san_speculation.proofs.Cuts.{all_fit, cut_by_some, cut_count, cut_is, cut_nothing, cut_nowhere}
+use Rattle.san_speculation.proofs.Lows.{cut_kept}
 use Rattle.san_speculation.proofs.Keeping.{rollbacks_fit, run_seen}
 use Rattle.san_speculation.proofs.Seen.{leaves_seen, same_machine, stays_seen, step_seen}
 use Rattle.san_speculation.proofs.Speculated.{is_run}
@@ -26,9 +27,11 @@ overflow_add-self c =
     omega (arith, few, same)
 
 pub invariant_of-self : goal.invariant_of-self
-invariant_of-self c =
-    subst (λ (js : List Step). IsReplayed (core_by c.self.inside.machine c.self.inside.ahead c.self.inside.claims.items js c.self.inside.rollbacks)) (sym c.in_err-push.ensures.items)
-    (subst IsReplayed (sym c.self.view_is) c.keeps_the_law.ensures.replayed)
+invariant_of-self c = (
+  subst (λ (js : List Step). IsReplayed (core_by c.self.inside.machine c.self.inside.ahead c.self.inside.claims.items js c.self.inside.rollbacks)) (sym c.in_err-push.ensures.items)
+      (subst IsReplayed (sym c.self.view_is) c.keeps_the_law.ensures.replayed),
+  c.self.invariant.1,
+)
 
 pub invariant_of-self-2 : goal.invariant_of-self-2
 invariant_of-self-2 c =
@@ -37,12 +40,14 @@ invariant_of-self-2 c =
     let old = core_by c.self.inside.machine c.self.inside.ahead c.self.inside.claims.items c.self.inside.journal.items c.self.inside.rollbacks in
     let new = core_by c.self.inside.machine c.cut.new.self c.self.inside.claims.items c.push.new.self.items (c.self.inside.rollbacks + 1) in
     let gone : 0 < c.len.result - c.current-current.result = omega (arith, c.if-gone-eq0.false) in
-    let short : c.current-current.result < length (chain_of c.self.inside.ahead.chains c.args.leaf.0) = let l = c.len.ensures in omega (arith, gone, l) in
-    step_keeps c.args.self.now new c.keeps_the_law.ensures.machine run c.keeps_the_law.ensures.replayed (book.Cut c.args.worker c.args.leaf.0) tt
-    (step_seen old c.args.self.now c.self.view_is (book.Cut c.args.worker c.args.leaf.0) _
-    (cut_is c.self.inside.machine c.self.inside.ahead c.self.inside.claims.items c.self.inside.journal.items c.self.inside.rollbacks c.args.worker c.current-current.result c.args.leaf c.cut.new.self c.push.new.self.items (c.self.inside.rollbacks + 1)
-    c.current-current.ensures.count short c.cut.ensures c.in_ok-push.ensures.items refl))
-    (same_machine old c.args.self.now new c.self.view_is refl)
+    let short : c.current-current.result < length (chain_of c.self.inside.ahead.chains c.args.leaf.0) = let l = c.len.ensures in omega (arith, gone, l) in (
+      step_keeps c.args.self.now new c.keeps_the_law.ensures.machine run c.keeps_the_law.ensures.replayed (book.Cut c.args.worker c.args.leaf.0) tt
+          (step_seen old c.args.self.now c.self.view_is (book.Cut c.args.worker c.args.leaf.0) _
+          (cut_is c.self.inside.machine c.self.inside.ahead c.self.inside.claims.items c.self.inside.journal.items c.self.inside.rollbacks c.args.worker c.current-current.result c.args.leaf c.cut.new.self c.push.new.self.items (c.self.inside.rollbacks + 1)
+          c.current-current.ensures.count short c.cut.ensures c.in_ok-push.ensures.items refl))
+          (same_machine old c.args.self.now new c.self.view_is refl),
+      cut_kept c.self.inside.machine c.self.inside.ahead c.self.inside.claims.items c.self.inside.journal.items c.self.inside.rollbacks c.args.self.now c.self.view_is c.keeps_the_law.ensures.machine (run_seen c.self.inside.machine c.args.self.now (ap (λ (x : CoreValue). x.machine) c.self.view_is) (is_run c.network.result.now c.self.inside.machine.network c.network.ensures c.is_network.ensures.network c.is_network.ensures.lawful c.is_network.ensures.laid c.is_network.ensures.shared c.is_network.ensures.private)) c.keeps_the_law.ensures.replayed c.self.inside.soonest c.self.invariant.1 c.args.leaf c.current-current.result c.cut.new.self c.touch.new.soonest c.cut.ensures c.touch.ensures,
+    )
 
 pub returns : goal.returns
 returns c =
@@ -71,3 +76,6 @@ returns-then-gone-eq0 c =
     stays_seen (core_by c.self.inside.machine c.self.inside.ahead c.self.inside.claims.items c.self.inside.journal.items c.self.inside.rollbacks) c.args.self.now c.self.view_is (book.Cut c.args.worker c.args.leaf.0)
     (cut_nothing c.self.inside.machine c.self.inside.ahead c.self.inside.claims.items c.self.inside.journal.items c.self.inside.rollbacks c.args.worker c.args.leaf.0 c.current-current.result c.current-current.ensures.count
     (let l : c.len.result ≡ length (chain_of c.self.inside.ahead.chains c.args.leaf.0) = c.len.ensures in omega (arith, l, c.if-gone-eq0.true)))
+
+pub touch-requires : goal.touch-requires
+touch-requires c = let n = c.leaves.ensures in let l = c.self.invariant.1.long in omega (arith, n, l, c.if-at-leaves.false)

@@ -6,7 +6,7 @@ use Rattle.san_speculation.proofs.Speculated.{is_run}
 use Rattle.san_speculation.proofs.speculation.Core.keeps_the_law.Goals as goal
 
 pub returns-clause-replayed : goal.returns-clause-replayed
-returns-clause-replayed c = subst IsReplayed c.self.view_is c.self.invariant
+returns-clause-replayed c = subst IsReplayed c.self.view_is c.self.invariant.0
 
 pub returns-clause-machine : goal.returns-clause-machine
 returns-clause-machine c = subst (λ (x : CoreValue). FollowsRun x.machine) c.self.view_is c.follows.ensures
