@@ -1,0 +1,8 @@
+use Rattle.std.proofs.Common.{◌∙◌, arith}
+use Rattle.san_board.proofs.Growing.{cut_grows}
+use Rattle.san_board.proofs.desk.Desk.cut.Goals as goal
+
+pub invariant_of-self : goal.invariant_of-self
+invariant_of-self g c =
+    let grown = cut_grows c.self.inside.core c.cut-done.new.self c.worker.result c.args.leaf.0 c.cut-done.result c.cut-done.ensures in
+    (omega (arith, grown.journal, c.self.invariant.0, c.book.ensures.steps, c.piece_steps.ensures), grown.claims ∙ c.self.invariant.1, c.self.invariant.2)
