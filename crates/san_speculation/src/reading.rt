@@ -19,10 +19,12 @@ use san_reward::Tally;
 
 impl Core {
     /// The steps of a core lead from its opening to it, and so its book is in order and what it has
-    /// committed follows the run.
+    /// committed, which is its machine's, follows the run.
     pub fn keeps_the_law(&self)
         ensures replayed { IsReplayed self.now }
         ensures machine { FollowsRun self.now.machine }
+        ensures committed { (self.now.book.held ≡ core_in self.now.machine)
+            × (self.now.book.taken ≡ self.now.machine.taken) }
         ensures law { (r : IsReplayed self.now) → KeepsTheLaw self.now.machine.network
             self.now.machine.seed self.now.machine.limits self.now.machine.start r.workers
             self.now.book }

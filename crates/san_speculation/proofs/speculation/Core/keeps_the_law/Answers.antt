@@ -1,5 +1,5 @@
-use Rattle.std.proofs.Common.{ap, subst}
-use Rattle.san_core.specs.Machines.{FollowsRun}
+use Rattle.std.proofs.Common.{◌≡◌, ap, refl, subst}
+use Rattle.san_core.specs.Machines.{FollowsRun, core_in}
 use Rattle.san_speculation.specs.Speculating.{CoreValue, IsReplayed}
 use Rattle.san_speculation.proofs.Keeping.{keeps_the_law, run_seen}
 use Rattle.san_speculation.proofs.Speculated.{is_run}
@@ -10,6 +10,9 @@ returns-clause-replayed c = subst IsReplayed c.self.view_is c.self.invariant.0
 
 pub returns-clause-machine : goal.returns-clause-machine
 returns-clause-machine c = subst (λ (x : CoreValue). FollowsRun x.machine) c.self.view_is c.follows.ensures
+
+pub returns-clause-committed : goal.returns-clause-committed
+returns-clause-committed c = subst (λ (x : CoreValue). (x.book.held ≡ core_in x.machine) × (x.book.taken ≡ x.machine.taken)) c.self.view_is (refl, refl)
 
 pub returns-clause-law : goal.returns-clause-law
 returns-clause-law c r =
