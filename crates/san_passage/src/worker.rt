@@ -1,14 +1,13 @@
 //! The runs of one worker.
 
-ghost use Rattle.std.specs.Prelude.{◌≡◌, ◌<◌, ◌≤◌, ◌+◌, ◌-◌, ◌^◌, IfOk, length};
+ghost use Rattle.std.specs.Prelude.{◌≡◌, Bool, List, ℕ, ◌<◌, ◌≤◌, ◌+◌, ◌-◌, ◌^◌, IfOk, length};
 ghost use Rattle.san_base.specs.Limits.{IsInRange};
 ghost use Rattle.san_base.specs.declared.limits.TheConstants.{MAX_WORKERS};
 ghost use Rattle.san_share.specs.Shares.{first_of};
 ghost use Rattle.san_summary.specs.declared.batch.TheConstants.{MAX_RUNS};
-ghost use Rattle.san_passage.specs.Firsts.{has_at_least};
+ghost use Rattle.san_probe.specs.Markings.{IsMarkingOf};
 ghost use Rattle.san_passage.specs.inner.Joined.{IsShare};
 
-use crate::condition::AtLeast;
 use crate::passage::first_passage;
 use crate::totals::Passages;
 use san_base::{Limits, NoMemory};
@@ -47,24 +46,26 @@ pub(crate) fn sum_up<F: Asking, M: Condition>(
     Ok(all)
 }
 
-/// The passages of a worker's runs, up to a marking in which a place has at least a value.
-pub(crate) fn work(
+/// The passages of a worker's runs, up to a marking in which a condition holds.
+pub(crate) fn work<C: Asking + Condition + Copy>(
     alloc: Global,
     flat: &Flat,
     seeds: Seeds,
     limits: Limits,
     each: u32,
     worker: usize,
-    condition: AtLeast,
+    condition: C,
 ) -> Result<Passages, NoMemory>
     requires range { IsInRange limits }
     requires runs { seeds.runs ≤ MAX_RUNS }
     requires each { each ≤ MAX_RUNS }
     requires worker { worker < MAX_WORKERS }
     requires last { seeds.first + seeds.runs ≤ 2 ^ 64 }
-    requires place { condition.place < length flat.now.initial }
-    ensures { IfOk result (IsShare flat.now limits (has_at_least condition.place condition.least)
-        (seeds.first + first_of each seeds.runs worker)
+    requires callable { (m : List ℕ) → IsMarkingOf (length flat.now.initial) m
+        → C.accepts condition m }
+    requires answers { (m : List ℕ) → IsMarkingOf (length flat.now.initial) m → (holds : Bool)
+        → C.answers condition m holds → holds ≡ C.holds condition m }
+    ensures { IfOk result (IsShare flat.now limits (C.holds condition) (seeds.first + first_of each seeds.runs worker)
         (first_of each seeds.runs (worker + 1) - first_of each seeds.runs worker)) }
 {
     let first = first_of(worker, each, seeds.runs);

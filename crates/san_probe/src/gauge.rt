@@ -1,7 +1,6 @@
 //! Gauges: a number that a function gives for each marking.
 
 ghost use Rattle.std.specs.Prelude.{◌≡◌, ℤ, List, ℕ};
-ghost use Rattle.std.specs.Borrow.{Bor};
 ghost use Rattle.san_probe.specs.Markings.{IsMarkingOf};
 
 use std::marker::Model;
@@ -12,7 +11,7 @@ pub trait Measure {
     ghost value: { Self → List ℕ → ℤ };
 }
 
-/// A function of a marking, as a closure is one.
+/// A function of a marking.
 pub trait Reading {
     /// It may be called on this marking.
     ghost accepts: { Self → List ℕ → Type 0 };
@@ -24,20 +23,6 @@ pub trait Reading {
     fn read(&self, marking: &[u32]) -> i64
         requires { accepts self.now marking.now }
         ensures { answers self.now marking.now result };
-}
-
-/// A closure as a reading.
-#[derive(Drop)]
-pub struct Reads<F: Fn(&[u32]) -> i64>(pub F);
-
-impl<F: Fn(&[u32]) -> i64> Reading for Reads<F> {
-    ghost accepts = { λ r m. (lent : Bor (List ℕ)) → lent.now ≡ m → F.pre r.0 lent };
-
-    ghost answers = { λ r m value. (lent : Bor (List ℕ)) × (lent.now ≡ m) × F.post r.0 lent value };
-
-    fn read(&self, marking: &[u32]) -> i64 {
-        (self.0)(marking)
-    }
 }
 
 /// A function of markings of so many places that gives a measure's value on each of them.

@@ -6,6 +6,6 @@ mod gauge;
 mod measured;
 mod until;
 
-pub use gauge::{Gauge, Measure, Reading, Reads};
+pub use gauge::{Gauge, Measure, Reading};
 pub use measured::{Watched, watch};
-pub use until::{Asking, Asks, Condition, Until};
+pub use until::{Asking, Condition, Until};

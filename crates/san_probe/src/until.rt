@@ -1,7 +1,6 @@
 //! Conditions on markings that a function tells.
 
 ghost use Rattle.std.specs.Prelude.{◌≡◌, Bool, List, ℕ};
-ghost use Rattle.std.specs.Borrow.{Bor};
 ghost use Rattle.san_probe.specs.Markings.{IsMarkingOf};
 
 use std::marker::Model;
@@ -12,7 +11,7 @@ pub trait Condition {
     ghost holds: { Self → List ℕ → Bool };
 }
 
-/// A question to a marking, as a closure is one.
+/// A question to a marking.
 pub trait Asking {
     /// It may be asked of this marking.
     ghost accepts: { Self → List ℕ → Type 0 };
@@ -24,20 +23,6 @@ pub trait Asking {
     fn ask(&self, marking: &[u32]) -> bool
         requires { accepts self.now marking.now }
         ensures { answers self.now marking.now result };
-}
-
-/// A closure as a question.
-#[derive(Drop)]
-pub struct Asks<F: Fn(&[u32]) -> bool>(pub F);
-
-impl<F: Fn(&[u32]) -> bool> Asking for Asks<F> {
-    ghost accepts = { λ a m. (lent : Bor (List ℕ)) → lent.now ≡ m → F.pre a.0 lent };
-
-    ghost answers = { λ a m holds. (lent : Bor (List ℕ)) × (lent.now ≡ m) × F.post a.0 lent holds };
-
-    fn ask(&self, marking: &[u32]) -> bool {
-        (self.0)(marking)
-    }
 }
 
 /// A function of markings of so many places that tells on each of them whether a condition holds.

@@ -1,7 +1,6 @@
 use Rattle.san_share.specs.Shares.{first_of}
-use Rattle.san_passage.specs.Firsts.{has_at_least}
 use Rattle.san_passage.specs.inner.Joined.{IsShare}
 use Rattle.san_passage.proofs.running.join_all.Given as goal
 
 abbrev pub invariant-shares : goal.invariant-shares
-invariant-shares l = IsShare l.flat l.fn.limits (has_at_least l.fn.condition.place l.fn.condition.least) l.fn.seeds.first (first_of l.each l.fn.seeds.runs l.share-index) l.all
+invariant-shares g l = IsShare l.flat l.fn.limits (g.C.Condition.holds l.fn.condition) l.fn.seeds.first (first_of l.each l.fn.seeds.runs l.share-index) l.all
