@@ -1,0 +1,11 @@
+pub mod AcceptedLemmas
+pub mod CutLemmas
+pub mod LimitLemmas
+pub mod NameLemmas
+pub mod RingChecks
+pub mod RingHeard
+pub mod RingLimits
+pub mod RingModel
+pub mod RingRead
+pub mod RingWords
+pub mod StationChecks
