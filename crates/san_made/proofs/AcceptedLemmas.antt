@@ -2,8 +2,9 @@
 use Rattle.std.proofs.Common.{◌≡◌, ℕ, ◌≤◌, List, map, Option, None, Result, Ok, Err, refl, ap, ◌∙◌}
 use Rattle.san_check.specs.declared.walk.Fault.{Fault}
 use Rattle.san_check.specs.walk.Model.{syntax_fault}
-use Rattle.san_gen.specs.Texts.{model_text, ring_text}
-use Rattle.san_gen.specs.declared.model.ModelKind.TheVariants.{Ring}
+use Rattle.san_gen.specs.Texts.{farm_text, model_text, ring_text}
+use Rattle.san_gen.specs.declared.model.ModelKind.{ModelKind}
+use Rattle.san_gen.specs.declared.model.ModelKind.TheVariants.{Farm, Ring}
 use Rattle.san_gen.specs.declared.model.TheConstants.{MAX_COPIES, MIN_COPIES}
 use Rattle.san_lex.specs.Lexer.{Located, TokenFault, Word, heard, tokens, word_of}
 use Rattle.san_net.specs.Network.{Network}
@@ -14,6 +15,9 @@ use Rattle.san_text.specs.Steps.{GrammarFault}
 use Rattle.san_text.specs.Texts.{offset_of, parsed, parsed_tokens, parsed_words, spots_of}
 use Rattle.san_text.specs.declared.syntax.Syntax.{Syntax}
 use Rattle.san_text.specs.declared.text.Parsed.{Parsed}
+use Rattle.san_made.proofs.FarmChecks.{farm_has_no_fault, farm_within}
+use Rattle.san_made.proofs.FarmModel.{farm_syntax}
+use Rattle.san_made.proofs.FarmRead.{farm_heard, farm_is_read}
 use Rattle.san_made.proofs.RingHeard.{ring_heard}
 use Rattle.san_made.proofs.RingLimits.{ring_has_no_fault, ring_within}
 use Rattle.san_made.proofs.RingModel.{ring_syntax}
@@ -39,5 +43,6 @@ by_tokens text ws s left (Err fault) is said e f l = absurd cc
 accepted_by : (text : List ℕ) (ws : List Word) (s : Syntax) (left : ℕ) → heard (tokens text) ≡ Ok ws → syntax_at ws ≡ Ok (s, left) → syntax_fault s ≡ None → limit_of (composition_of s) ≡ None → IsAcceptedText text
 accepted_by text ws s left said e f l = by_tokens text ws s left (tokens text) refl said e f l
 
-pub ring_accepted : (copies : ℕ) → MIN_COPIES ≤ copies → copies ≤ MAX_COPIES → (network : Network) × (accepted (model_text Ring copies) ≡ Ok network)
-ring_accepted n two few = accepted_by (ring_text n) _ (ring_syntax n) _ (ring_heard n two few) (ring_is_read n) (ring_has_no_fault n two few) (ring_within n few)
+pub made_accepted : (kind : ModelKind) (copies : ℕ) → MIN_COPIES ≤ copies → copies ≤ MAX_COPIES → (network : Network) × (accepted (model_text kind copies) ≡ Ok network)
+made_accepted Farm n two few = accepted_by (farm_text n) _ (farm_syntax n) _ (farm_heard n two few) (farm_is_read n) (farm_has_no_fault n two few) (farm_within n few)
+made_accepted Ring n two few = accepted_by (ring_text n) _ (ring_syntax n) _ (ring_heard n two few) (ring_is_read n) (ring_has_no_fault n two few) (ring_within n few)

@@ -9,3 +9,6 @@ pub mod RingModel
 pub mod RingRead
 pub mod RingWords
 pub mod StationChecks
+pub mod FarmModel
+pub mod FarmRead
+pub mod FarmChecks

@@ -1,5 +1,7 @@
 -- A ring's station and its reward have no fault.
-use Rattle.std.proofs.Common.{◌≡◌, ℕ, Bool, false, refl, sym, subst, [], ◌∷◌, ◌++◌, None, map, codes}
+use Rattle.std.proofs.Common.{◌≡◌, ℕ, Bool, false, refl, sym, subst, List, [], ◌∷◌, ◌++◌, None, map, codes}
+use Rattle.san_base.specs.declared.op.Op.{Op}
+use Rattle.san_text.specs.declared.syntax.Ast.{Ast}
 use Rattle.san_text.specs.declared.syntax.Ast.TheFolds.{fold-roll-Ast}
 use Rattle.san_text.specs.declared.syntax.Ast.TheOpen.{Ast-F}
 use Rattle.san_text.specs.declared.syntax.Ast.TheVariants as ast
@@ -25,6 +27,23 @@ number_entries places n = fold-roll-Ast (Bool → Entries) (expr_step places) (A
 pub number_clear : (places : Places) (n : ℕ) → AllNone (expr_entries places (ast.Number n))
 unfolding entry
 number_clear places n = subst (λ (f : Bool → Entries). AllNone (f false)) (sym (number_entries places n)) (refl, tt)
+
+-- a name has none where it stands for a place that is no array
+name_entries : (places : Places) (name : List ℕ) → first_entries places (ast.Name name) ≡ λ late. entry late (whole places name) ∷ []
+unfolding view.roll-Ast denote.Hole.Carrier.roll
+name_entries places name = fold-roll-Ast (Bool → Entries) (expr_step places) (Ast-F.Name name)
+
+pub name_clear : (places : Places) (name : List ℕ) → whole places name ≡ None → AllNone (expr_entries places (ast.Name name))
+unfolding entry
+name_clear places name e = subst (λ (f : Bool → Entries). AllNone (f false)) (sym (name_entries places name)) (e, tt)
+
+-- nor have two operands together
+binary_entries : (places : Places) (o : Op) (a b : Ast) → first_entries places (ast.Binary o a b) ≡ λ late. first_entries places a late ++ first_entries places b false
+unfolding view.roll-Ast denote.Hole.Carrier.roll
+binary_entries places o a b = fold-roll-Ast (Bool → Entries) (expr_step places) (Ast-F.Binary o a b)
+
+pub binary_clear : (places : Places) (o : Op) (a b : Ast) → AllNone (expr_entries places a) → AllNone (expr_entries places b) → AllNone (expr_entries places (ast.Binary o a b))
+binary_clear places o a b first second = subst (λ (f : Bool → Entries). AllNone (f false)) (sym (binary_entries places o a b)) (none_append (expr_entries places a) (expr_entries places b) first second)
 
 -- the station
 abbrev shown : Places

@@ -1,6 +1,6 @@
-//! The law of the generated models: each ring is accepted.
+//! The law of the generated models: each of them is accepted.
 #![tactic(auto)]
 
 mod laws;
 
-pub use laws::generated_rings_are_accepted;
+pub use laws::generated_models_are_accepted;
